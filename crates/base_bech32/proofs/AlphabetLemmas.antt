@@ -1,14 +1,10 @@
 -- Letters and their values: each gives the other back, and the values of letters are read one after the other.
-use Rattle.std.proofs.Common.{◌≡◌, ◌∙◌, sym, ap, refl, ℕ, zero, suc, ◌<◌, ◌≤◌, ◌==◌, Bool, true, false, not, cond, List, [], ◌∷◌, length, map, slice_index, take, arith, ◌&&◌, get_or, nat_lt, replicate, Option, Some, None, Ok, Err}
-use Rattle.std.proofs.lemmas.Bool.{eqb-true, lt-ltb, le-ltb, ltb-true, ltb-false, not-false}
-use Rattle.std.proofs.lemmas.List.{get_or-replicate, take_all}
-use Rattle.std.proofs.lemmas.List.FromFn.{get_or-map-range_with_len}
+use Rattle.std.proofs.Common.{◌≡◌, ◌∙◌, sym, ap, refl, ℕ, zero, suc, ◌<◌, ◌≤◌, ◌==◌, Bool, true, false, not, cond, List, [], ◌∷◌, length, map, slice_index, take, arith, ◌&&◌, get_or, nat_lt, replicate, Option, Some, None, Ok, Err, eqb-true, lt-ltb, le-ltb, ltb-true, ltb-false, take_all}
+use Rattle.std.proofs.lemmas.{Bool.not-false, List.{get_or-replicate, FromFn.get_or-map-range_with_len}}
 use Rattle.std.proofs.lemmas.List.Sums.{fails_before_first, passes_at_first, position_or_len_is}
 use Rattle.std.specs.List.{list_all, position_or_len, range_with_len}
-use Rattle.base_bech32.specs.declared.alphabet.TheConstants.{VALUES}
-use Rattle.base_bech32.specs.declared.fault.BechFault.TheVariants.{Digit}
-use Rattle.base_bech32.specs.Alphabet.{letters, letter_of, value_of, is_letter, IsValues}
-use Rattle.base_bech32.specs.Spelling.{is_plain}
+use Rattle.base_bech32.specs.declared.{alphabet.TheConstants.VALUES, fault.BechFault.TheVariants.Digit}
+use Rattle.base_bech32.specs.{Alphabet.{letters, letter_of, value_of, is_letter, IsValues}, Spelling.is_plain}
 use Rattle.base_bech32.specs.Reading.{values_or_fault, values_read, wrong_place}
 
 -- ---- the tables

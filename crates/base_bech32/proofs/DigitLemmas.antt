@@ -1,12 +1,11 @@
 -- Numbers and their digits: each gives the other back, and digits are written part by part.
-use Rattle.std.proofs.Common.{◌≡◌, ◌∙◌, sym, ap, refl, subst, ℕ, zero, suc, ◌+◌, ◌-◌, ◌*◌, ◌/◌, ◌%◌, ◌^◌, ◌<◌, ◌≤◌, List, [], ◌∷◌, ◌++◌, length, slice_index, slice_set, take, drop, arith}
+use Rattle.std.proofs.Common.{◌≡◌, ◌∙◌, sym, ap, refl, subst, ℕ, zero, suc, ◌+◌, ◌-◌, ◌*◌, ◌/◌, ◌%◌, ◌^◌, ◌<◌, ◌≤◌, List, [], ◌∷◌, ◌++◌, length, slice_index, slice_set, take, drop, arith, append_assoc, append-nil, length-append, length-set, length-take-le, length-drop, take-append-drop, take-take, div-add-mod'}
 use Rattle.std.proofs.lemmas.Int.Digits.{number_after_append, number_push, number_more, number_lt}
-use Rattle.std.proofs.lemmas.List.{append_assoc, append-nil, length-append, length-set, length-take-le, length-drop, drop-set, take-append-drop, take-take, drop-take}
-use Rattle.std.proofs.lemmas.Slice.{take-put_mid}
-use borrow.Rule.Slice.PartMut.{put_mid}
-use Rattle.std.proofs.lemmas.Nat.{div-mul-add, mod-mul-add, div-add-mod', div_below, mod_below}
+use Rattle.std.proofs.lemmas.{List.{drop-set, drop-take}, Slice.take-put_mid}
+use Rattle.std.proofs.lemmas.Nat.{div-mul-add, mod-mul-add, div_below, mod_below}
 use Rattle.std.proofs.Math.Nat.{pow-suc, pow-zero, pow-le-pow_right}
 use Rattle.std.specs.Int.Digits.{number_from_digits_after, AllBelowBase}
+use borrow.Rule.Slice.PartMut.{put_mid}
 use Rattle.base_bech32.specs.Digits.{digits, number_of, AreDigits}
 
 -- ---- a number and its digits

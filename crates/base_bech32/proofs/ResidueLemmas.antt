@@ -1,11 +1,8 @@
 -- One step of the residue by the table, and the residue of lists that are joined.
-use Rattle.std.proofs.Common.{◌≡◌, ◌∙◌, ap, refl, ℕ, zero, suc, ◌*◌, ◌/◌, ◌%◌, ◌^◌, ◌<◌, List, [], ◌∷◌, map, slice_index, arith, bit_and, bit_xor, nat_lt, true}
-use Rattle.std.proofs.lemmas.Bool.{and_parts, ltb-true}
-use Rattle.std.proofs.lemmas.List.FromFn.{get_or-map-range_with_len}
-use Rattle.std.proofs.lemmas.Nat.{and_mask, xor_lt, mod_below}
+use Rattle.std.proofs.Common.{◌≡◌, ◌∙◌, ap, refl, ℕ, zero, suc, ◌*◌, ◌/◌, ◌%◌, ◌^◌, ◌<◌, List, [], ◌∷◌, map, slice_index, arith, bit_and, bit_xor, nat_lt, true, ltb-true}
+use Rattle.std.proofs.lemmas.{Bool.and_parts, List.FromFn.get_or-map-range_with_len, Nat.{and_mask, xor_lt, mod_below}}
 use Rattle.std.specs.List.{list_all, range_with_len}
-use Rattle.base_bech32.specs.declared.residue.TheConstants.{BROUGHT}
-use Rattle.base_bech32.specs.Residue.{chosen, constants, residue_step}
+use Rattle.base_bech32.specs.{declared.residue.TheConstants.BROUGHT, Residue.{chosen, constants, residue_step}}
 
 -- ---- the table
 

@@ -1,15 +1,12 @@
 -- Spellings are read back, and what is read is spelled by its text.
-use Rattle.std.proofs.Common.{◌≡◌, ◌∙◌, sym, ap, refl, subst, ℕ, zero, suc, ◌+◌, ◌-◌, ◌^◌, ◌<◌, ◌≤◌, ◌==◌, ◌&&◌, Bool, true, false, inl, inr, cond, List, [], ◌∷◌, ◌++◌, length, map, slice_index, take, drop, arith, nat_eq, nat_le, slice_set, IsAscii, IfOk, Result, Ok, Err, bytes_eq}
-use Rattle.std.proofs.lemmas.Bool.{and_parts, eq-eqb, eqb-true, leb-true, or_cases, or_left}
-use Rattle.std.proofs.lemmas.Bool.Decides.{same_from_decides}
-use Rattle.std.proofs.lemmas.List.{append_assoc, drop_at, drop-drop, drop_more, get_or_append_left, length-append, length-map, length-take-le, map-append, same_from_push, set_at, take_at, take-append-drop, take_more}
-use Rattle.std.proofs.lemmas.List.Folds.{list_all-append}
-use Rattle.std.proofs.lemmas.Slice.Eq.{bytes_eq-Decides}
+use Rattle.std.proofs.Common.{◌≡◌, ◌∙◌, sym, ap, refl, subst, ℕ, zero, suc, ◌+◌, ◌-◌, ◌^◌, ◌<◌, ◌≤◌, ◌==◌, ◌&&◌, Bool, true, false, inl, inr, cond, List, [], ◌∷◌, ◌++◌, length, map, slice_index, take, drop, arith, nat_eq, nat_le, slice_set, IsAscii, IfOk, Result, Ok, Err, bytes_eq, eq-eqb, eqb-true, leb-true, append_assoc, drop_at, drop-drop, length-append, length-take-le, take_at, take-append-drop}
+use Rattle.std.proofs.lemmas.Bool.{and_parts, or_cases, or_left, Decides.same_from_decides}
+use Rattle.std.proofs.lemmas.List.{drop_more, get_or_append_left, length-map, map-append, same_from_push, set_at, take_more}
+use Rattle.std.proofs.lemmas.{List.Folds.list_all-append, Slice.Eq.bytes_eq-Decides}
 use Rattle.std.specs.List.{list_all, starts_with}
 use borrow.Rule.Slice.PartMut.{put_mid}
 use Rattle.base_types.specs.Address.{IsAddress}
-use Rattle.base_bech32.specs.Alphabet.{letter_of, value_of, IsValues}
-use Rattle.base_bech32.specs.declared.fault.BechFault.{BechFault}
+use Rattle.base_bech32.specs.{Alphabet.{letter_of, value_of, IsValues}, declared.fault.BechFault.BechFault}
 use Rattle.base_bech32.specs.declared.fault.BechFault.TheVariants.{Prefix, Length, Sum}
 use Rattle.base_bech32.specs.Digits.{digits, number_of, AreDigits}
 use Rattle.base_bech32.specs.Reading.{bytes_checked, bytes_of, rest_read, unspelled, values_read, ◌>>=◌}

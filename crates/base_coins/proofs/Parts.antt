@@ -1,14 +1,10 @@
 -- How the loops over one list end.
-use Rattle.std.proofs.Common.{◌≡◌, ℕ, ◌+◌, ◌/◌, ◌%◌, ◌^◌, ◌<◌, ◌≤◌, Bool, true, false, List, [], ◌∷◌, ◌++◌, map, length, drop, get_or, refl, sym, ap, ◌∙◌, subst, arith, append-nil, add-one, drop-cons}
-use Rattle.std.specs.Prelude.{Result, Ok, if◌then◌else◌, nat_lt}
-use Rattle.std.proofs.lemmas.Bool.{ltb-true}
+use Rattle.std.proofs.Common.{◌≡◌, ℕ, ◌+◌, ◌/◌, ◌%◌, ◌^◌, ◌<◌, ◌≤◌, Bool, true, false, List, [], ◌∷◌, ◌++◌, map, length, drop, get_or, refl, sym, ap, ◌∙◌, subst, arith, append-nil, add-one, drop-cons, Result, Ok, if◌then◌else◌, nat_lt, ltb-true, zero-mul}
 use Rattle.std.proofs.lemmas.List.{get_or-map, drop_all, length-map}
 use Rattle.base_decimals.specs.declared.over.Over.{Over}
-use Rattle.std.proofs.Common.{zero-mul}
 use Rattle.base_decimals.specs.Decimals.{below, trunc_of, whole_of, mul_cut_of, mul_even_of, quo_cut_of}
 use Rattle.base_decimals.specs.Rounding.{even}
-use Rattle.base_coins.specs.declared.scaling.Scaling.{Scaling}
-use Rattle.base_coins.specs.declared.scaling.Scaling.TheVariants.{ProductCut, ProductEven, QuotientCut}
+use Rattle.base_coins.specs.declared.scaling.Scaling.{Scaling, TheVariants.{ProductCut, ProductEven, QuotientCut}}
 use Rattle.base_coins.specs.Scaling.{scaled_by}
 use Rattle.base_coins.specs.Coins.{Money, IsMoney, by_coin, all_coins, coin_then, whole_coins, fractions}
 use Rattle.base_coins.proofs.Order.{rises_from_money, money_from_rises}

@@ -1,20 +1,11 @@
 -- A search by halves in a list of coins.
-use Rattle.std.proofs.Common.{◌≡◌, ℕ, suc, ◌+◌, ◌<◌, false, cond, List, [], ◌∷◌, map, length, get_or, refl, sym, ap, ◌∙◌, subst, inl, inr, arith}
-use Rattle.std.specs.Prelude.{Some, None, slice_get, option_map}
-use Rattle.std.proofs.lemmas.Bool.{cases_lt}
-use Rattle.std.specs.List.{HoldsAt}
-use Rattle.std.specs.List.Sorted.{IsStrictlySortedBy, IsSortedBy, IsPartitionPoint}
-use Rattle.std.specs.Map.{lookup, keys_of}
-use Rattle.std.specs.BTreeMap.{is_at}
-use Rattle.std.specs.Ordering.{is_eq, is_lt}
-use Rattle.std.specs.declared.cmp.Ordering.TheVariants.{Less, Equal, Greater}
-use Rattle.std.proofs.lemmas.Cmp.{eq_by_cmp_equiv}
-use Rattle.std.proofs.lemmas.Map.Entries.{lookup_from_place}
+use Rattle.std.proofs.Common.{◌≡◌, ℕ, suc, ◌+◌, ◌<◌, false, cond, List, [], ◌∷◌, map, length, get_or, refl, sym, ap, ◌∙◌, subst, inl, inr, arith, Some, None, slice_get, option_map, HoldsAt, IsSortedBy, is_eq, is_lt, Less, Equal, Greater}
+use Rattle.std.proofs.lemmas.{Bool.cases_lt, Cmp.eq_by_cmp_equiv, Map.Entries.lookup_from_place}
 use Rattle.std.proofs.lemmas.Map.Keys.{Less-from_sorted, IsDistinct-from_sorted}
 use Rattle.std.proofs.lemmas.Option.{slice_get-map, slice_get-get_or}
+use Rattle.std.specs.{List.Sorted.{IsStrictlySortedBy, IsPartitionPoint}, Map.{lookup, keys_of}, BTreeMap.is_at}
 use Rattle.base_types.specs.Orders.{denom_cmp}
-use Rattle.base_coins.specs.Coins.{IsMoney}
-use Rattle.base_coins.proofs.InOrder.{name_at, length-names}
+use Rattle.base_coins.{specs.Coins.IsMoney, proofs.InOrder.{name_at, length-names}}
 use Rattle.base_coins.proofs.Order.{total, less_back, greater_back, same_name}
 
 module _ {X : Type 0} (seen : X → List ℕ × ℕ) where

@@ -1,18 +1,9 @@
 -- The definitions of sum, difference and the smaller list, along two lists side by side.
-use Rattle.std.proofs.Common.{◌≡◌, ℕ, ◌+◌, ◌^◌, ◌<◌, ◌==◌, true, false, cond, List, [], ◌∷◌, refl, sym, ap, ◌∙◌, subst, arith}
-use Rattle.std.specs.Prelude.{Option, Some, None, Result, Ok, Err, if◌then◌else◌, nat_lt}
-use Rattle.std.proofs.lemmas.Bool.{lt-ltb, le-ltb, ne_eqb}
-use Rattle.std.specs.List.{position_from}
-use Rattle.std.specs.Map.{remove_entry}
-use Rattle.std.specs.BTreeMap.{is_at, insert_entry}
-use Rattle.std.specs.Ordering.{is_eq, match_ordering}
-use Rattle.std.specs.declared.cmp.Ordering.{Ordering}
-use Rattle.std.specs.declared.cmp.Ordering.TheVariants.{Less, Equal, Greater}
-use Rattle.base_decimals.specs.declared.over.Over.{Over}
-use Rattle.base_decimals.specs.Decimals.{add_of}
+use Rattle.std.proofs.Common.{◌≡◌, ℕ, ◌+◌, ◌^◌, ◌<◌, ◌==◌, true, false, cond, List, [], ◌∷◌, refl, sym, ap, ◌∙◌, subst, arith, Option, Some, None, Result, Ok, Err, if◌then◌else◌, nat_lt, lt-ltb, le-ltb, ne_eqb, is_eq, Ordering, Less, Equal, Greater}
+use Rattle.std.specs.{List.position_from, Map.remove_entry, BTreeMap.{is_at, insert_entry}, Ordering.match_ordering}
+use Rattle.base_decimals.specs.{declared.over.Over.Over, Decimals.add_of}
 use Rattle.base_types.specs.Orders.{denom_cmp}
-use Rattle.base_coins.specs.Steps.{◌>>=◌}
-use Rattle.base_coins.specs.Pairs.{Pair, pair_of, side_by_side}
+use Rattle.base_coins.specs.{Steps.{◌>>=◌}, Pairs.{Pair, pair_of, side_by_side}}
 use Rattle.base_coins.specs.Coins.{Money, amount_of, with_amount, coin_then, all_coins, coins_added, first_short}
 use Rattle.base_coins.proofs.Order.{by_order, less_back, equal_back, greater_back, same_name, Above, Rises, above_lower, amount-above, amount-first_greater, amount-first}
 use Rattle.base_coins.proofs.Amounts.{add_fits, add_sum}

@@ -1,15 +1,9 @@
 -- Digits that are read one by one.
-use Rattle.std.specs.Char.{digit_value, is_ascii_digit}
-use Rattle.std.specs.List.{list_all}
-use Rattle.base_decimals.specs.Texts.{is_number}
-use Rattle.std.specs.Str.Parse.{AllDigits, digits_value}
-use Rattle.std.proofs.lemmas.Int.Digits.{digits_value_more, digits_value-lt}
-use Rattle.std.proofs.lemmas.Str.Parse.{digits_value-take-le}
-use Rattle.std.proofs.lemmas.Nat.{pow-add}
-use Rattle.std.proofs.Math.Nat.{pow-le-pow_right, one-le-pow}
-use Rattle.base_decimals.proofs.Division.{mul-lt-mul_pos}
-use Rattle.std.proofs.Common.{◌≡◌, ℕ, zero, suc, ◌+◌, ◌-◌, ◌*◌, ◌^◌, ◌<◌, ◌≤◌, List, [], ◌∷◌, length, take, get_or, true, false, Bool, ◌&&◌, nat_lt, nat_le, leb-true, refl, sym, ap, ◌∙◌, arith}
-use Rattle.std.proofs.lemmas.Grind.{common_steps}
+use Rattle.std.specs.{Char.{digit_value, is_ascii_digit}, List.list_all, Str.Parse.{AllDigits, digits_value}}
+use Rattle.std.proofs.lemmas.{Int.Digits.{digits_value_more, digits_value-lt}, Str.Parse.digits_value-take-le}
+use Rattle.std.proofs.{Math.Nat.{pow-le-pow_right, one-le-pow}, lemmas.Grind.common_steps}
+use Rattle.base_decimals.{specs.Texts.is_number, proofs.Division.mul-lt-mul_pos}
+use Rattle.std.proofs.Common.{pow-add, ◌≡◌, ℕ, zero, suc, ◌+◌, ◌-◌, ◌*◌, ◌^◌, ◌<◌, ◌≤◌, List, [], ◌∷◌, length, take, get_or, true, false, Bool, ◌&&◌, nat_lt, nat_le, leb-true, refl, sym, ap, ◌∙◌, arith}
 
 -- a digit's byte
 pub digit_range : (c : ℕ) → digit_value c < 10 → (48 ≤ c) × (c ≤ 57) × (digit_value c ≡ c - 48)

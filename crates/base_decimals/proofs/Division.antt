@@ -1,8 +1,8 @@
 -- Long division in digits of base 2^64, over plain numbers.
 use Rattle.std.specs.Int.Count.{count_leading_zeros}
-use Rattle.std.proofs.lemmas.Nat.{leading_top, pow-add, pow_pos, div_below, mod_below, mod-mul-add, same_from_place}
+use Rattle.std.proofs.lemmas.Nat.{leading_top, div_below, mod_below, mod-mul-add, same_from_place}
 use Rattle.std.proofs.Math.Nat.{mul-le-mul_right, mod-eq_of_lt}
-use Rattle.std.proofs.Common.{◌≡◌, ℕ, zero, suc, ◌+◌, ◌-◌, ◌*◌, ◌/◌, ◌%◌, ◌^◌, ◌<◌, ◌≤◌, sym, ap, subst, ◌∙◌, arith}
+use Rattle.std.proofs.Common.{pow-add, pow_pos, ◌≡◌, ℕ, zero, suc, ◌+◌, ◌-◌, ◌*◌, ◌/◌, ◌%◌, ◌^◌, ◌<◌, ◌≤◌, sym, ap, subst, ◌∙◌, arith}
 
 -- a guess from the upper half u of the divisor u * 2^64 + l that is right
 pub guess_right : (r d g u l v : ℕ) → v ≡ u * 2 ^ 64 + l → g * u ≤ r → g * l ≤ (r - g * u) * 2 ^ 64 + d

@@ -1,17 +1,10 @@
 -- Which texts are read: a whole part alone, or with a point and places.
-use Rattle.std.specs.Char.{is_ascii_digit}
-use Rattle.std.specs.List.{list_all, position_or_len}
-use Rattle.std.specs.Option.{option_map}
-use Rattle.std.specs.Str.Parse.{digits_value}
-use Rattle.std.proofs.lemmas.Bool.{cases_lt}
-use Rattle.std.proofs.lemmas.List.Sums.{prefix_len_stops}
-use Rattle.std.proofs.Math.Seq.{take-append_seam, drop-append-add, drop-cons}
-use Rattle.std.proofs.lemmas.List.{take-append-drop}
-use Rattle.std.proofs.lemmas.Grind.{common_steps}
-use Rattle.std.proofs.Common.{◌≡◌, ℕ, suc, ◌+◌, ◌-◌, ◌*◌, ◌^◌, ◌<◌, ◌≤◌, Bool, true, false, ◌&&◌, not, cond, nat_lt, nat_le, Option, Some, None, List, [], ◌∷◌, ◌++◌, length, take, drop, get_or, position, length-take-le, ◌⊎◌, inl, inr, refl, sym, ap, ◌∙◌, arith}
+use Rattle.std.specs.{Char.is_ascii_digit, List.{list_all, position_or_len}, Str.Parse.digits_value}
+use Rattle.std.proofs.lemmas.{Bool.cases_lt, List.Sums.prefix_len_stops}
+use Rattle.std.proofs.{Math.Seq.{take-append_seam, drop-append-add, drop-cons}, lemmas.Grind.common_steps}
+use Rattle.std.proofs.Common.{option_map, take-append-drop, ◌≡◌, ℕ, suc, ◌+◌, ◌-◌, ◌*◌, ◌^◌, ◌<◌, ◌≤◌, Bool, true, false, ◌&&◌, not, cond, nat_lt, nat_le, Option, Some, None, List, [], ◌∷◌, ◌++◌, length, take, drop, get_or, position, length-take-le, ◌⊎◌, inl, inr, refl, sym, ap, ◌∙◌, arith}
 use Rattle.base_decimals.specs.Texts.{is_number, number_of, is_point, both_units, whole_units, place_units, units_at, dec_of}
-use Rattle.base_decimals.specs.Laws.{IsNumber, SaysWhole, SaysPlaces}
-use Rattle.base_decimals.proofs.Digits.{and-true, number_short}
+use Rattle.base_decimals.{specs.Laws.{IsNumber, SaysWhole, SaysPlaces}, proofs.Digits.{and-true, number_short}}
 use Rattle.base_decimals.proofs.Inverse.{digit_no_point, point_at, number_some}
 
 pub bool_cases : (b : Bool) → (b ≡ true) ⊎ (b ≡ false)

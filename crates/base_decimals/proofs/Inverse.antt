@@ -1,18 +1,12 @@
 -- Texts of decimals are read as what they were written from, and the other way round.
-use Rattle.std.specs.Char.{digit_value, is_ascii_digit}
-use Rattle.std.specs.List.{list_all, position_or_len}
-use Rattle.std.specs.Option.{option_map}
-use Rattle.std.specs.Str.Parse.{digits_value, digits_value_after}
-use Rattle.std.proofs.lemmas.Int.Digits.{digits_value-lt}
-use Rattle.std.proofs.lemmas.Bool.{cases_eq, ne_eqb, lt-ltb}
-use Rattle.std.proofs.lemmas.Nat.{pow-add, div-mul-add, mod-mul-add, mod_below}
+use Rattle.std.specs.{Char.{digit_value, is_ascii_digit}, List.{list_all, position_or_len}}
+use Rattle.std.{specs.Str.Parse.{digits_value, digits_value_after}, proofs.lemmas.Int.Digits.digits_value-lt}
+use Rattle.std.proofs.lemmas.{Bool.cases_eq, Nat.{div-mul-add, mod-mul-add, mod_below}}
 use Rattle.std.proofs.Math.Nat.{pow-suc, one-le-pow, pow-le-pow_right, mul-le-mul_right, mod-eq_of_lt}
-use Rattle.std.proofs.Math.Seq.{take-append_seam, drop-append-add}
-use Rattle.std.proofs.Common.{◌≡◌, ℕ, zero, suc, ◌+◌, ◌-◌, ◌*◌, ◌/◌, ◌%◌, ◌^◌, ◌<◌, ◌≤◌, true, false, ◌==◌, nat_lt, cond, Some, None, List, [], ◌∷◌, ◌++◌, length, drop, position, ◌⊎◌, inl, inr, length-append, refl, sym, ap, subst, ◌∙◌, arith}
-use Rattle.std.proofs.lemmas.Grind.{common_steps}
+use Rattle.std.proofs.{Math.Seq.{take-append_seam, drop-append-add}, lemmas.Grind.common_steps}
+use Rattle.std.proofs.Common.{option_map, ne_eqb, lt-ltb, pow-add, ◌≡◌, ℕ, zero, suc, ◌+◌, ◌-◌, ◌*◌, ◌/◌, ◌%◌, ◌^◌, ◌<◌, ◌≤◌, true, false, ◌==◌, nat_lt, cond, Some, None, List, [], ◌∷◌, ◌++◌, length, drop, position, ◌⊎◌, inl, inr, length-append, refl, sym, ap, subst, ◌∙◌, arith}
 use Rattle.base_decimals.specs.Texts.{number_of, is_point, dec_of, units_at, both_units, whole_units, place_units, last_digits, without_zeros, dec_text}
-use Rattle.base_decimals.specs.Laws.{IsCanonical}
-use Rattle.base_decimals.proofs.Digits.{all_digits, and-true, digit_range, digit_passes}
+use Rattle.base_decimals.{specs.Laws.IsCanonical, proofs.Digits.{all_digits, and-true, digit_range, digit_passes}}
 use Rattle.base_decimals.proofs.Written.{length-last_digits, trimmed}
 
 -- the digits of n count above those that follow

@@ -1,11 +1,8 @@
 -- Rounding: the whole number below, above and nearest.
-use Rattle.std.proofs.Math.Nat.{mul-le-mul_right, le_of_mul-le-mul_right}
-use Rattle.std.proofs.lemmas.Nat.{mod_below}
-use Rattle.std.proofs.lemmas.Bool.{cases_lt, cases_order}
+use Rattle.std.proofs.{Math.Nat.{mul-le-mul_right, le_of_mul-le-mul_right}, lemmas.Nat.mod_below}
+use Rattle.std.proofs.lemmas.{Bool.{cases_lt, cases_order}, Grind.common_steps}
 use Rattle.std.proofs.Common.{◌≡◌, ℕ, ◌+◌, ◌-◌, ◌*◌, ◌/◌, ◌%◌, ◌<◌, ◌≤◌, inl, inr, refl, sym, subst, arith}
-use Rattle.std.proofs.lemmas.Grind.{common_steps}
-use Rattle.base_decimals.specs.Rounding.{up, even}
-use Rattle.base_decimals.specs.Laws.{distance}
+use Rattle.base_decimals.specs.{Rounding.{up, even}, Laws.distance}
 
 -- a quotient and a rest
 pub parts : (a c : ℕ) → 0 < c → a / c * c + a % c ≡ a

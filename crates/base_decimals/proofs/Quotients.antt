@@ -1,6 +1,5 @@
 -- What a quotient with its rest says of the definition of `mul_div`.
-use Rattle.std.proofs.lemmas.Nat.{div-mul-add, mod-mul-add, le-div, div_below, mod_below}
-use Rattle.std.proofs.Math.Nat.{mul-le-mul_right}
+use Rattle.std.proofs.{lemmas.Nat.{div-mul-add, mod-mul-add, le-div, div_below, mod_below}, Math.Nat.mul-le-mul_right}
 use Rattle.std.proofs.Common.{◌≡◌, ℕ, ◌+◌, ◌*◌, ◌/◌, ◌%◌, ◌^◌, ◌<◌, ◌≤◌, Some, None, ap, ◌∙◌, arith}
 use Rattle.base_decimals.specs.Decimals.{mul_div_of}
 

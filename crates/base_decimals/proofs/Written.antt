@@ -1,10 +1,7 @@
 -- Digits that are written one by one.
-use Rattle.std.proofs.lemmas.List.{drop-set, drop_all, length-append}
-use Rattle.std.proofs.lemmas.Bool.{cases_lt}
-use Rattle.std.proofs.lemmas.Nat.{le-div, div_below}
-use Rattle.std.proofs.Math.Nat.{pow-le-pow_right, pow-suc, one-le-pow, div-div-eq-div-mul, div-eq_of_lt}
-use Rattle.std.proofs.Math.ListN.{set}
-use Rattle.std.proofs.Common.{◌≡◌, ℕ, zero, suc, ◌+◌, ◌-◌, ◌*◌, ◌/◌, ◌%◌, ◌^◌, ◌<◌, ◌≤◌, List, [], ◌∷◌, ◌++◌, length, take, drop, length-take-le, refl, sym, ap, subst, ◌∙◌, inl, inr, arith, false, ◌==◌}
+use Rattle.std.proofs.lemmas.{List.{drop-set, drop_all}, Bool.cases_lt, Nat.{le-div, div_below}}
+use Rattle.std.proofs.Math.{Nat.{pow-le-pow_right, pow-suc, one-le-pow, div-div-eq-div-mul, div-eq_of_lt}, ListN.set}
+use Rattle.std.proofs.Common.{length-append, ◌≡◌, ℕ, zero, suc, ◌+◌, ◌-◌, ◌*◌, ◌/◌, ◌%◌, ◌^◌, ◌<◌, ◌≤◌, List, [], ◌∷◌, ◌++◌, length, take, drop, length-take-le, refl, sym, ap, subst, ◌∙◌, inl, inr, arith, false, ◌==◌}
 use Rattle.base_decimals.specs.Texts.{last_digits, without_zeros, dec_text}
 
 pub length-last_digits : (k n : ℕ) → length (last_digits k n) ≡ k

@@ -1,16 +1,8 @@
 -- Keys that stand twice, or among others.
-use Rattle.std.proofs.Common.{◌≡◌, ◌∙◌, ℕ, ◌+◌, ◌≤◌, ◌<◌, Bool, true, false, not, List, [], ◌∷◌, drop, length, get_or, refl, sym, ap}
-use Rattle.std.specs.Prelude.{◌||◌, ◌&&◌}
-use Rattle.std.specs.List.{list_any, list_all}
-use Rattle.std.specs.declared.cmp.Ordering.{Ordering}
-use Rattle.std.specs.declared.cmp.Ordering.TheVariants.{Less, Equal, Greater}
-use Rattle.std.specs.Ordering.{is_eq, match_ordering, ordering_then}
-use Rattle.std.specs.BTreeMap.{is_at}
-use Rattle.std.specs.BTreeSet.{insert_key}
-use Rattle.std.specs.Cmp.{IsTotalOrder, eq_by_cmp_equiv}
-use Rattle.std.proofs.lemmas.Bool.{true≢false}
-use Rattle.base_types.specs.declared.account.Account.{Account}
-use Rattle.base_types.specs.Orders.{account_cmp}
+use Rattle.std.proofs.Common.{◌≡◌, ◌∙◌, ℕ, ◌+◌, ◌≤◌, ◌<◌, Bool, true, false, not, List, [], ◌∷◌, drop, length, get_or, refl, sym, ap, ◌||◌, ◌&&◌, Ordering, Less, Equal, Greater, is_eq, true≢false}
+use Rattle.std.specs.{List.{list_any, list_all}, Ordering.{match_ordering, ordering_then}, BTreeMap.is_at}
+use Rattle.std.specs.{BTreeSet.insert_key, Cmp.{IsTotalOrder, eq_by_cmp_equiv}}
+use Rattle.base_types.specs.{declared.account.Account.Account, Orders.account_cmp}
 use Rattle.base_coins.specs.Coins.{has_repeats}
 use Rattle.base_lists.proofs.PlaceLemmas.{next, drop_end}
 

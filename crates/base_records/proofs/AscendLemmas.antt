@@ -1,11 +1,7 @@
 -- Keys that are sorted and stand once ascend, and ascending lists with the same members are one.
-use Rattle.std.proofs.Common.{◌≡◌, ◌∙◌, ℕ, ◌+◌, ◌<◌, get_or, length, Bool, true, false, List, [], ◌∷◌, refl, sym, ap, arith, inl, inr}
-use Rattle.std.specs.declared.cmp.Ordering.{Ordering}
-use Rattle.std.specs.declared.cmp.Ordering.TheVariants.{Less, Equal, Greater}
-use Rattle.std.specs.Ordering.{is_eq, is_lt, eq_by_cmp, ordering_reverse}
-use Rattle.std.specs.Cmp.{IsTotalOrder}
-use Rattle.std.specs.List.{AllByRecursion, IsDistinct}
-use Rattle.std.specs.List.Sorted.{IsStrictlySortedBy, IsSorted}
+use Rattle.std.proofs.Common.{◌≡◌, ◌∙◌, ℕ, ◌+◌, ◌<◌, get_or, length, Bool, true, false, List, [], ◌∷◌, refl, sym, ap, arith, inl, inr, Ordering, Less, Equal, Greater, is_eq, is_lt, IsSorted}
+use Rattle.std.specs.{Ordering.{eq_by_cmp, ordering_reverse}, Cmp.IsTotalOrder, List.{AllByRecursion, IsDistinct}}
+use Rattle.std.specs.List.Sorted.{IsStrictlySortedBy}
 use Rattle.std.proofs.lemmas.Map.Keys.{apart_from_distinct, sorted_from_all_adjacent}
 use Rattle.base_records.proofs.MemberLemmas.{Member}
 

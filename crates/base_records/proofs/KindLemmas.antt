@@ -1,8 +1,6 @@
 -- Items of two kinds side by side: each once, with one more, and as they change.
-use Rattle.std.proofs.Common.{◌≡◌, ◌∙◌, ℕ, ◌<◌, Bool, true, false, List, [], ◌∷◌, ◌++◌, Some, length, append_assoc, refl, sym, ap, subst, arith, inl, inr}
-use Rattle.std.specs.Prelude.{◌||◌, suc, slice_get, ◌≢◌, ◌⊎◌, Contains, Result, Ok, Err, OnOk}
-use Rattle.base_roles.specs.declared.items.Item.{Item}
-use Rattle.base_roles.specs.Items.{key_of, IsOnce, IsAdded, AreChanges}
+use Rattle.std.proofs.Common.{◌≡◌, ◌∙◌, ℕ, ◌<◌, Bool, true, false, List, [], ◌∷◌, ◌++◌, Some, length, append_assoc, refl, sym, ap, subst, arith, inl, inr, ◌||◌, suc, slice_get, ◌≢◌, ◌⊎◌, Contains, Result, Ok, Err, OnOk}
+use Rattle.base_roles.specs.{declared.items.Item.Item, Items.{key_of, IsOnce, IsAdded, AreChanges}}
 use Rattle.base_records.specs.Kinds.{AreApart, AreOf, IsByKey, either}
 use Rattle.base_records.proofs.MemberLemmas.{Member, Once, member, contained, member-left, member-right, member-cases, once, once-append}
 

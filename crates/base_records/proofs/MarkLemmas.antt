@@ -1,7 +1,6 @@
 -- Lists of marks, and those of two tables that are marked together.
 use Rattle.std.proofs.Common.{◌≡◌, ◌≢◌, ◌∙◌, ◌+◌, ◌<◌, List, [], ◌∷◌, ◌++◌, length, refl, sym, ap, arith}
-use Rattle.std.specs.List.{AllByRecursion}
-use Rattle.std.proofs.lemmas.List.{length_push}
+use Rattle.std.{specs.List.AllByRecursion, proofs.lemmas.List.length_push}
 use Rattle.base_records.specs.Marks.{side_by_side, AtEachMark}
 
 -- where some mark is open, their number is positive

@@ -1,13 +1,7 @@
 -- Elements of lists, by recursion, and entries by their keys.
-use Rattle.std.proofs.Common.{◌≡◌, ◌∙◌, ℕ, ◌<◌, Bool, true, false, cond, List, [], ◌∷◌, ◌++◌, Option, Some, length, get_or, refl, sym, ap, subst, arith, inl, inr}
-use Rattle.std.specs.Prelude.{zero, suc, slice_get, ◌⊎◌, ⊤, Contains, unwrap_or}
-use Rattle.std.specs.declared.cmp.Ordering.{Ordering}
-use Rattle.std.specs.declared.cmp.Ordering.TheVariants.{Equal}
-use Rattle.std.specs.Ordering.{eq_by_cmp}
-use Rattle.std.specs.Cmp.{IsTotalOrder, eq_by_cmp_equiv}
-use Rattle.std.specs.List.{AllByRecursion, IsDistinct}
-use Rattle.std.specs.Map.{keys_of}
-use Rattle.std.specs.BTreeMap.{is_at}
+use Rattle.std.proofs.Common.{◌≡◌, ◌∙◌, ℕ, ◌<◌, Bool, true, false, cond, List, [], ◌∷◌, ◌++◌, Option, Some, length, get_or, refl, sym, ap, subst, arith, inl, inr, zero, suc, slice_get, ◌⊎◌, Contains, unwrap_or, Ordering, Equal}
+use Rattle.std.specs.{Prelude.⊤, Ordering.eq_by_cmp, Cmp.{IsTotalOrder, eq_by_cmp_equiv}}
+use Rattle.std.specs.{List.{AllByRecursion, IsDistinct}, Map.keys_of, BTreeMap.is_at}
 use Rattle.base_table.specs.Tabled.{value_at}
 use Rattle.base_roles.specs.Items.{IsOnce}
 use Rattle.base_types.proofs.MapLemmas.{equal}

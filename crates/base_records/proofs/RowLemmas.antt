@@ -1,20 +1,12 @@
 -- Entries as items, and the changes of touched keys.
-use Rattle.std.proofs.Common.{◌≡◌, ◌∙◌, Bool, true, false, cond, List, [], ◌∷◌, Option, Some, None, refl, sym, ap, subst, inl, inr}
-use Rattle.std.specs.Prelude.{◌≢◌, ◌⊎◌, is_some}
-use Rattle.std.proofs.lemmas.Map.Keys.{IsDistinct-from_sorted}
-use Rattle.std.specs.declared.cmp.Ordering.{Ordering}
-use Rattle.std.specs.Ordering.{eq_by_cmp}
-use Rattle.std.specs.Cmp.{IsTotalOrder}
-use Rattle.std.specs.List.{AllByRecursion, IsDistinct, cons_option}
-use Rattle.std.specs.List.Sorted.{IsStrictlySortedBy}
-use Rattle.std.specs.Map.{keys_of}
+use Rattle.std.proofs.Common.{◌≡◌, ◌∙◌, Bool, true, false, cond, List, [], ◌∷◌, Option, Some, None, refl, sym, ap, subst, inl, inr, ◌≢◌, ◌⊎◌, is_some, Ordering}
+use Rattle.std.{proofs.lemmas.Map.Keys.IsDistinct-from_sorted, specs.{Ordering.eq_by_cmp, Cmp.IsTotalOrder}}
+use Rattle.std.specs.{List.{AllByRecursion, IsDistinct, cons_option, Sorted.IsStrictlySortedBy}, Map.keys_of}
 use Rattle.std.specs.BTreeMap.{insert_entry, is_at}
 use Rattle.base_table.specs.Tabled.{Tabled, TellsSettled, value_at}
 use Rattle.base_types.proofs.MapLemmas.{ascend-put, at-put}
-use Rattle.base_roles.specs.declared.items.Item.{Item}
-use Rattle.base_roles.specs.Items.{key_of, IsOnce, IsAdded, AreChanges}
-use Rattle.base_records.specs.Items.{rows_of, change_of, changes_of, AreFit, IsRowed}
-use Rattle.base_records.specs.Kinds.{AreOf}
+use Rattle.base_roles.specs.{declared.items.Item.Item, Items.{key_of, IsOnce, IsAdded, AreChanges}}
+use Rattle.base_records.specs.{Items.{rows_of, change_of, changes_of, AreFit, IsRowed}, Kinds.AreOf}
 use Rattle.base_records.proofs.KindLemmas.{added, all-changes}
 use Rattle.base_records.proofs.MemberLemmas.{Member, Once, member, contained, once, entry_of, value_of, same_key, at_itself, other_key}
 

@@ -1,12 +1,7 @@
 -- What is asked of a kind of records, from less: each item is one of the kind, or neither it nor its key has an entry.
-use Rattle.std.proofs.Common.{◌≡◌, ◌∙◌, Bool, true, false, Option, Some, None, sym, ap, subst, inl, inr}
-use Rattle.std.specs.Prelude.{is_some, ◌⊎◌}
-use Rattle.std.specs.declared.cmp.Ordering.{Ordering}
-use Rattle.std.specs.declared.cmp.Ordering.TheVariants.{Equal}
-use Rattle.base_roles.specs.declared.items.Item.{Item}
-use Rattle.base_roles.specs.Items.{key_of}
-use Rattle.base_records.specs.Items.{IsRowed}
-use Rattle.base_records.proofs.MemberLemmas.{entry-parts}
+use Rattle.std.proofs.Common.{◌≡◌, ◌∙◌, Bool, true, false, Option, Some, None, sym, ap, subst, inl, inr, is_some, ◌⊎◌, Ordering, Equal}
+use Rattle.base_roles.specs.{declared.items.Item.Item, Items.key_of}
+use Rattle.base_records.{specs.Items.IsRowed, proofs.MemberLemmas.entry-parts}
 
 none-some : {A : Type 0} (a : A) → ◌≡◌ {A = Option A} None (Some a) → ⊥
 none-some a e = cc

@@ -1,13 +1,7 @@
 -- Tests of numbers, of bytes and of several tests: they tell whether values are one.
-use Rattle.std.specs.Prelude.{◌≡◌, ℕ, ◌==◌, ◌&&◌, Bool, true, false, List, refl}
-use Rattle.std.specs.Ordering.{is_eq}
-use Rattle.std.specs.Cmp.{tied_itself}
-use Rattle.std.specs.Str.{bytes_eq}
-use Rattle.std.proofs.Common.{sym, ◌∙◌, ap, arith}
-use Rattle.std.proofs.lemmas.Bool.Decides.{nat_tests}
-use Rattle.std.proofs.lemmas.Cmp.{nat_list_cmp_total}
-use Rattle.std.proofs.lemmas.Map.Text.{is_eq-slice_cmp}
-use Rattle.std.proofs.lemmas.Map.Lookups.{exact_bytes}
+use Rattle.std.proofs.Common.{◌≡◌, ℕ, ◌==◌, ◌&&◌, Bool, true, false, List, refl, is_eq, bytes_eq, sym, ◌∙◌, ap, arith}
+use Rattle.std.{specs.Cmp.tied_itself, proofs.lemmas.{Bool.Decides.nat_tests, Cmp.nat_list_cmp_total}}
+use Rattle.std.proofs.lemmas.Map.{Text.is_eq-slice_cmp, Lookups.exact_bytes}
 use Rattle.base_types.proofs.MapLemmas.{equal}
 
 pub both : (a b : Bool) → (a && b) ≡ true → (a ≡ true) × (b ≡ true)

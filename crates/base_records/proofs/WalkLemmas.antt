@@ -1,19 +1,11 @@
 -- Walks over entries, each time to the least key above the last.
-use Rattle.std.proofs.Common.{◌≡◌, ◌∙◌, ℕ, ◌+◌, ◌<◌, Bool, true, false, cond, List, [], ◌∷◌, ◌++◌, Option, Some, None, add-one, append_assoc, drop, drop-cons, get_or, length, refl, sym, ap, arith, inl, inr}
-use Rattle.std.specs.Prelude.{◌&&◌, map}
-use Rattle.std.specs.declared.cmp.Ordering.{Ordering}
-use Rattle.std.specs.declared.cmp.Ordering.TheVariants.{Less, Equal, Greater}
-use Rattle.std.specs.declared.ops.Bound.TheVariants.{Excluded, Unbounded}
-use Rattle.std.specs.Ordering.{is_lt, ordering_reverse}
-use Rattle.std.specs.Cmp.{IsTotalOrder}
-use Rattle.std.specs.List.{AllByRecursion, filter, cons_option}
-use Rattle.std.specs.List.Sorted.{IsStrictlySortedBy}
-use Rattle.std.specs.Map.{keys_of}
+use Rattle.std.proofs.Common.{◌≡◌, ◌∙◌, ℕ, ◌+◌, ◌<◌, Bool, true, false, cond, List, [], ◌∷◌, ◌++◌, Option, Some, None, add-one, append_assoc, drop, drop-cons, get_or, length, refl, sym, ap, arith, inl, inr, ◌&&◌, map, Ordering, Less, Equal, Greater, is_lt, filter}
+use Rattle.std.specs.{declared.ops.Bound.TheVariants.{Excluded, Unbounded}, Ordering.ordering_reverse, Cmp.IsTotalOrder}
+use Rattle.std.specs.{List.{AllByRecursion, cons_option, Sorted.IsStrictlySortedBy}, Map.keys_of}
 use Rattle.std.specs.BTreeMap.Range.{entries_between}
 use Rattle.base_table.specs.Tabled.{first_of, entry_above, value_at}
 use Rattle.base_roles.specs.declared.items.Item.{Item}
-use Rattle.base_records.specs.Items.{change_of, changes_of}
-use Rattle.base_records.proofs.MemberLemmas.{Member, all_member}
+use Rattle.base_records.{specs.Items.{change_of, changes_of}, proofs.MemberLemmas.{Member, all_member}}
 
 some_is : {A : Type 0} (a b : A) → Some a ≡ Some b → a ≡ b
 some_is a b e = cc

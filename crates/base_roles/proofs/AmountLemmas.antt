@@ -1,22 +1,11 @@
 -- What coins that move do to each balance.
-use Rattle.std.proofs.Common.{◌≡◌, ◌∙◌, ℕ, ◌+◌, ◌-◌, ◌≤◌, ◌&&◌, Bool, true, false, cond, List, [], ◌∷◌, Some, refl, sym, ap, subst, arith}
-use Rattle.std.specs.Prelude.{unwrap_or}
-use Rattle.std.proofs.lemmas.Map.Text.{is_eq-slice_cmp}
-use Rattle.std.proofs.lemmas.Slice.Eq.{bytes_eq-Decides}
-use Rattle.std.specs.declared.cmp.Ordering.{Ordering}
-use Rattle.std.specs.declared.cmp.Ordering.TheVariants.{Less, Equal, Greater}
-use Rattle.std.specs.Ordering.{ordering_then, is_eq}
-use Rattle.std.specs.Cmp.{eq_by_cmp_equiv}
-use Rattle.std.specs.List.Sorted.{IsStrictlySortedBy}
-use Rattle.std.specs.Map.{keys_of, lookup}
-use Rattle.std.specs.BTreeMap.{is_at}
-use Rattle.base_types.specs.declared.account.Account.{Account}
-use Rattle.base_types.specs.Orders.{account_cmp, denom_cmp}
-use Rattle.base_coins.specs.Coins.{Money, amount_of}
-use Rattle.base_coins.proofs.Order.{Above, Rises, rises_from_money, amount-above}
+use Rattle.std.proofs.Common.{◌≡◌, ◌∙◌, ℕ, ◌+◌, ◌-◌, ◌≤◌, ◌&&◌, Bool, true, false, cond, List, [], ◌∷◌, Some, refl, sym, ap, subst, arith, unwrap_or, Ordering, Less, Equal, Greater, is_eq}
+use Rattle.std.{proofs.lemmas.{Map.Text.is_eq-slice_cmp, Slice.Eq.bytes_eq-Decides}, specs.Ordering.ordering_then}
+use Rattle.std.specs.{Cmp.eq_by_cmp_equiv, List.Sorted.IsStrictlySortedBy, Map.{keys_of, lookup}, BTreeMap.is_at}
+use Rattle.base_types.specs.{declared.account.Account.Account, Orders.{account_cmp, denom_cmp}}
+use Rattle.base_coins.{specs.Coins.{Money, amount_of}, proofs.Order.{Above, Rises, rises_from_money, amount-above}}
 use Rattle.base_roles.specs.Holdings.{Holdings, balance_of, with_balance, coin_moved, moved, is_short, IsBacked}
-use Rattle.base_roles.specs.Laws.{MovesByAmounts}
-use Rattle.base_roles.specs.Orders.{place_cmp}
+use Rattle.base_roles.specs.{Laws.MovesByAmounts, Orders.place_cmp}
 use Rattle.base_roles.proofs.HoldingLemmas.{place_total, balance-changed, ascend-changed, backed-coin_moved, first_enough, rest_enough, still_enough}
 
 pub both_at : (r s : Ordering) → is_eq (ordering_then r s) ≡ is_eq r && is_eq s

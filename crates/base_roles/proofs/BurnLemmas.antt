@@ -1,15 +1,10 @@
 -- What a coin that burns does to each balance and to each supply.
-use Rattle.std.proofs.Common.{◌≡◌, ℕ, ◌+◌, ◌-◌, ◌≤◌, Bool, true, false, cond, List, refl, subst, arith}
-use Rattle.std.specs.Prelude.{◌==◌}
-use Rattle.std.proofs.lemmas.Bool.Decides.{nat_tests}
-use Rattle.std.specs.BTreeMap.{is_at}
-use Rattle.base_types.specs.declared.account.Account.{Account}
-use Rattle.base_types.specs.Orders.{account_cmp, denom_cmp}
+use Rattle.std.proofs.Common.{◌≡◌, ℕ, ◌+◌, ◌-◌, ◌≤◌, Bool, true, false, cond, List, refl, subst, arith, ◌==◌}
+use Rattle.std.{proofs.lemmas.Bool.Decides.nat_tests, specs.BTreeMap.is_at}
+use Rattle.base_types.specs.{declared.account.Account.Account, Orders.{account_cmp, denom_cmp}}
 use Rattle.base_roles.specs.Holdings.{Holdings, balance_of, supply_of, total_of, coin_burned, burned, IsBacked}
-use Rattle.base_roles.specs.Laws.{BurnsByAmounts, BurnsLowerSupplies}
-use Rattle.base_roles.specs.Orders.{place_cmp}
-use Rattle.base_roles.proofs.AmountLemmas.{both_at, same_place}
-use Rattle.base_roles.proofs.EntryLemmas.{number-after}
+use Rattle.base_roles.specs.{Laws.{BurnsByAmounts, BurnsLowerSupplies}, Orders.place_cmp}
+use Rattle.base_roles.proofs.{AmountLemmas.{both_at, same_place}, EntryLemmas.number-after}
 use Rattle.base_roles.proofs.HoldingLemmas.{denom_total, balance-changed, balance-within, same_supply}
 
 lowered : (b : Bool) (x x2 m n : ℕ) → n ≤ m → x2 ≡ cond b (m - n) x → (b ≡ true → x ≡ m) → x2 + cond b n 0 ≡ x

@@ -1,17 +1,8 @@
 -- Lists of numbers by key: their order, a number after a change, and sums over some of the keys.
-use Rattle.std.proofs.Common.{◌≡◌, ◌∙◌, ℕ, ◌+◌, ◌≤◌, ◌==◌, Bool, true, false, cond, List, [], ◌∷◌, Option, Some, None, refl, sym, ap, arith}
-use Rattle.std.specs.Prelude.{All, ◌<◌, unwrap_or, if◌then◌else◌}
-use Rattle.std.proofs.lemmas.List.Elements.{All-cons, All-head, All-tail}
-use Rattle.std.proofs.lemmas.Bool.Decides.{nat_tests}
-use Rattle.std.proofs.lemmas.Map.{lookup-none}
-use Rattle.std.proofs.lemmas.Map.Keys.{sorted_tail}
-use Rattle.std.proofs.lemmas.Map.Entries.{none_below_head}
-use Rattle.std.specs.declared.cmp.Ordering.{Ordering}
-use Rattle.std.specs.declared.cmp.Ordering.TheVariants.{Less, Equal, Greater}
-use Rattle.std.specs.Ordering.{is_eq, match_ordering}
-use Rattle.std.specs.Cmp.{IsTotalOrder}
-use Rattle.std.specs.List.Sorted.{IsStrictlySortedBy}
-use Rattle.std.specs.Map.{keys_of, lookup, remove_entry}
+use Rattle.std.proofs.Common.{◌≡◌, ◌∙◌, ℕ, ◌+◌, ◌≤◌, ◌==◌, Bool, true, false, cond, List, [], ◌∷◌, Option, Some, None, refl, sym, ap, arith, All, ◌<◌, unwrap_or, if◌then◌else◌, Ordering, Less, Equal, Greater, is_eq}
+use Rattle.std.proofs.lemmas.{List.Elements.{All-cons, All-head, All-tail}, Bool.Decides.nat_tests, Map.lookup-none}
+use Rattle.std.{proofs.lemmas.Map.{Keys.sorted_tail, Entries.none_below_head}, specs.Ordering.match_ordering}
+use Rattle.std.specs.{Cmp.IsTotalOrder, List.Sorted.IsStrictlySortedBy, Map.{keys_of, lookup, remove_entry}}
 use Rattle.std.specs.BTreeMap.{insert_entry, is_at}
 use Rattle.base_types.proofs.MapLemmas.{ascend-put, ascend-taken, at-put, at-taken}
 use Rattle.base_roles.specs.Entries.{number_at, with_number, sum_where}

@@ -4,10 +4,7 @@ use Rattle.std.specs.BTreeMap.{is_at}
 use Rattle.base_types.specs.declared.account.Account.TheVariants as account
 use Rattle.base_types.specs.declared.account.Module.TheVariants as holder
 use Rattle.base_types.specs.Orders.{denom_cmp}
-use Rattle.base_roles.specs.declared.params.Ctx.{Ctx}
-use Rattle.base_roles.specs.Lent.{IsBurned}
-use Rattle.base_roles.specs.StakeChanges.{of_bond, StakeFalls}
-use Rattle.base_roles.specs.World.{View}
+use Rattle.base_roles.specs.{declared.params.Ctx.Ctx, Lent.IsBurned, StakeChanges.{of_bond, StakeFalls}, World.View}
 
 -- so much of the bond denomination has a sum's parts
 parts : (v : View) (d : List ℕ) (m n : ℕ) → of_bond v d (m + n) ≡ of_bond v d m + of_bond v d n

@@ -1,27 +1,14 @@
 -- Holdings after coins moved or were burned.
-use Rattle.std.proofs.Common.{◌≡◌, ◌∙◌, ℕ, ◌+◌, ◌-◌, ◌^◌, ◌≤◌, ◌<◌, Bool, true, false, cond, List, [], ◌∷◌, refl, sym, ap, subst, arith}
-use Rattle.std.specs.Prelude.{◌||◌, ◌==◌, ◌≢◌, nat_lt, length}
-use Rattle.std.proofs.lemmas.List.Elements.{All-nil}
-use Rattle.std.proofs.lemmas.Cmp.{nat_list_cmp_total}
-use Rattle.std.proofs.lemmas.Bool.Decides.{nat_tests}
-use Rattle.std.proofs.lemmas.Map.Lookups.{CmpEqualImpliesEq, exact_bytes, exact_pairs}
-use Rattle.std.proofs.lemmas.Map.Text.{is_eq-slice_cmp}
-use Rattle.std.proofs.lemmas.Slice.Eq.{bytes_eq-Decides}
-use Rattle.std.specs.declared.cmp.Ordering.{Ordering}
-use Rattle.std.specs.declared.cmp.Ordering.TheVariants.{Less, Equal, Greater}
-use Rattle.std.specs.Ordering.{nat_cmp, ordering_then, ordering_reverse, is_eq}
-use Rattle.std.specs.Cmp.{IsTotalOrder, on_total, then_total}
-use Rattle.std.specs.Cmp.Lexicographic.{slice_cmp}
-use Rattle.std.specs.List.Sorted.{IsStrictlySortedBy}
-use Rattle.std.specs.Map.{keys_of}
-use Rattle.std.specs.BTreeMap.{is_at}
-use Rattle.base_types.specs.declared.account.Account.{Account}
-use Rattle.base_types.specs.declared.account.Account.TheVariants as account
-use Rattle.base_types.specs.Modules.{module_number}
-use Rattle.base_types.specs.Orders.{account_cmp, denom_cmp}
+use Rattle.std.proofs.Common.{◌≡◌, ◌∙◌, ℕ, ◌+◌, ◌-◌, ◌^◌, ◌≤◌, ◌<◌, Bool, true, false, cond, List, [], ◌∷◌, refl, sym, ap, subst, arith, ◌||◌, ◌==◌, ◌≢◌, nat_lt, length, Ordering, Less, Equal, Greater, nat_cmp, is_eq}
+use Rattle.std.proofs.lemmas.{List.Elements.All-nil, Cmp.nat_list_cmp_total, Bool.Decides.nat_tests}
+use Rattle.std.proofs.lemmas.Map.{Lookups.{CmpEqualImpliesEq, exact_bytes, exact_pairs}, Text.is_eq-slice_cmp}
+use Rattle.std.{proofs.lemmas.Slice.Eq.bytes_eq-Decides, specs.Ordering.{ordering_then, ordering_reverse}}
+use Rattle.std.specs.{Cmp.{IsTotalOrder, on_total, then_total, Lexicographic.slice_cmp}, List.Sorted.IsStrictlySortedBy}
+use Rattle.std.specs.{Map.keys_of, BTreeMap.is_at}
+use Rattle.base_types.specs.{declared.account.Account.Account, Modules.module_number, Orders.{account_cmp, denom_cmp}}
 use Rattle.base_types.proofs.OrderLemmas.{account_exact, account_order, account_order_at}
-use Rattle.base_coins.specs.Coins.{Money, IsMoney}
-use Rattle.base_coins.proofs.Order.{Above, Rises, rises_from_money}
+use Rattle.base_types.specs.declared.account.Account.TheVariants as account
+use Rattle.base_coins.{specs.Coins.{Money, IsMoney}, proofs.Order.{Above, Rises, rises_from_money}}
 use Rattle.base_roles.specs.Holdings.{Holdings, balance_of, supply_of, total_of, with_balance, coin_moved, moved, coin_burned, burned, is_short, IsBacked, no_holdings}
 use Rattle.base_roles.specs.Orders.{place_cmp}
 use Rattle.base_roles.proofs.EntryLemmas.{number-after, ascend-after, positive-after, sum-after, number-within, Respects}

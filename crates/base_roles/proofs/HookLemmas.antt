@@ -1,21 +1,13 @@
 -- For callers of hooks.
-use Rattle.std.proofs.Common.{◌≡◌, ◌∙◌, ℕ, ◌≤◌, false, List, refl, sym, ap, subst}
-use Rattle.std.specs.Prelude.{Ok}
+use Rattle.std.proofs.Common.{◌≡◌, ◌∙◌, ℕ, ◌≤◌, false, List, refl, sym, ap, subst, Ok}
 use Rattle.std.specs.BTreeMap.{is_at}
-use Rattle.base_types.specs.declared.account.Account.{Account}
+use Rattle.base_types.specs.{declared.account.{Account.Account, Module.TheVariants.Distribution}, Orders.account_cmp}
 use Rattle.base_types.specs.declared.account.Account.TheVariants as account
-use Rattle.base_types.specs.declared.account.Module.TheVariants.{Distribution}
-use Rattle.base_types.specs.Orders.{account_cmp}
 use Rattle.base_coins.specs.Coins.{Money}
-use Rattle.base_roles.specs.declared.facts.Fact.{Fact}
-use Rattle.base_roles.specs.Answers.{Answers}
-use Rattle.base_roles.specs.Ground.{IsInOrder}
+use Rattle.base_roles.specs.{declared.facts.Fact.Fact, Answers.Answers, Ground.IsInOrder}
 use Rattle.base_roles.specs.Holdings.{Holdings, IsBacked, balance_of, moved}
-use Rattle.base_roles.specs.Hooks.{after, Tells, Stand, Ready, Stands, MayCall, Lawful}
-use Rattle.base_roles.specs.Owing.{Lists}
-use Rattle.base_roles.specs.Log.{Log}
-use Rattle.base_roles.specs.Pair.{HoldsOwed-same, pair_tells, after_first}
-use Rattle.base_roles.specs.World.{View, Hook, Told, gives, exceeds}
+use Rattle.base_roles.specs.{Hooks.{after, Tells, Stand, Ready, Stands, MayCall, Lawful}, Owing.Lists, Log.Log}
+use Rattle.base_roles.specs.{Pair.{HoldsOwed-same, pair_tells, after_first}, World.{View, Hook, Told, gives, exceeds}}
 use Rattle.base_roles.proofs.HoldingLemmas.{balance-moved_elsewhere}
 
 -- a call that answered Ok leaves what was told of it

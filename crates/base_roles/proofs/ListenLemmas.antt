@@ -1,14 +1,9 @@
 -- Hooks to which a listener listens: what they tell is what they tell alone, and the listener may be called behind them.
-use Rattle.std.proofs.Common.{◌≡◌, ◌∙◌, ◌≤◌, [], subst, arith}
-use Rattle.std.specs.Prelude.{◌^◌, ⊤, true, Result, Ok, Err}
-use Rattle.base_roles.specs.declared.faults.HookFault.{HookFault}
-use Rattle.base_roles.specs.Answers.{Answers}
-use Rattle.base_roles.specs.Ground.{IsInOrder}
-use Rattle.base_roles.specs.Hooks.{Tells, Needs, MayCall, Lawful, validator_in}
-use Rattle.base_roles.specs.Log.{Log}
-use Rattle.base_roles.specs.Owing.{Lists}
-use Rattle.base_roles.specs.Pair.{HoldsOwed-none}
-use Rattle.base_roles.specs.World.{View, Hook, Told, gives, exceeds}
+use Rattle.std.proofs.Common.{◌≡◌, ◌∙◌, ◌≤◌, [], subst, arith, ◌^◌, true, Result, Ok, Err}
+use Rattle.std.specs.Prelude.{⊤}
+use Rattle.base_roles.specs.{declared.faults.HookFault.HookFault, Answers.Answers, Ground.IsInOrder}
+use Rattle.base_roles.specs.{Hooks.{Tells, Needs, MayCall, Lawful, validator_in}, Log.Log, Owing.Lists}
+use Rattle.base_roles.specs.{Pair.HoldsOwed-none, World.{View, Hook, Told, gives, exceeds}}
 use Rattle.base_roles.proofs.HookLemmas.{picked, told-of_ok}
 
 module _ {H : Type 0} (t : Tells H) (lawful : Lawful t) (quiet : (h : H) → t.quiet h ≡ true) where

@@ -1,7 +1,6 @@
 -- Contexts of one moment.
 use Rattle.std.proofs.Common.{◌≡◌, ◌∙◌, ap}
-use Rattle.base_roles.specs.declared.params.Ctx.{Ctx}
-use Rattle.base_roles.specs.Ground.{SameMoment}
+use Rattle.base_roles.specs.{declared.params.Ctx.Ctx, Ground.SameMoment}
 
 -- a context is at its own moment
 pub same_moment : (c d : Ctx) → d ≡ c → SameMoment c d

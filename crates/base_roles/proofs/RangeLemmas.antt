@@ -1,9 +1,7 @@
 -- The number of the first parameter that is out of its range: it is none exactly where all are in theirs.
-use Rattle.std.proofs.Common.{◌≡◌, ◌∙◌, ℕ, ◌^◌, ◌≤◌, ◌<◌, Bool, true, false, List, [], ◌∷◌, ◌++◌, Option, Some, None, refl, ap, arith}
-use Rattle.std.specs.Prelude.{◌&&◌, nat_lt, nat_le}
+use Rattle.std.proofs.Common.{◌≡◌, ◌∙◌, ℕ, ◌^◌, ◌≤◌, ◌<◌, Bool, true, false, List, [], ◌∷◌, ◌++◌, Option, Some, None, refl, ap, arith, ◌&&◌, nat_lt, nat_le}
 use Rattle.std.proofs.lemmas.Bool.Decides.{nat_tests}
-use Rattle.base_roles.specs.declared.params.Params.{Params}
-use Rattle.base_roles.specs.Ground.{AreInRange}
+use Rattle.base_roles.specs.{declared.params.Params.Params, Ground.AreInRange}
 use Rattle.base_roles.specs.Ranges.{first_number, is_within, out_of_range, unless}
 
 -- ---- two lists, one behind the other

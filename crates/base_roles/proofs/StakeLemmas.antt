@@ -1,20 +1,12 @@
 -- Of slashes: what the staking accounts still hold, and for whom hooks still stand.
-use Rattle.std.proofs.Common.{◌≡◌, ◌∙◌, ℕ, ◌+◌, ◌≤◌, false, List, refl, sym, ap, subst, arith}
-use Rattle.std.specs.Prelude.{Result, Ok, Err, OnOk, Some, IsSome, is_some, not, if◌then◌else◌}
-use Rattle.std.specs.Ordering.{is_eq}
+use Rattle.std.proofs.Common.{◌≡◌, ◌∙◌, ℕ, ◌+◌, ◌≤◌, false, List, refl, sym, ap, subst, arith, Result, Ok, Err, OnOk, Some, IsSome, is_some, not, if◌then◌else◌, is_eq}
 use Rattle.base_types.specs.declared.account.Account.TheVariants as account
 use Rattle.base_types.specs.declared.account.Module.TheVariants as holder
 use Rattle.base_coins.proofs.Amounts.{itself}
-use Rattle.base_roles.specs.declared.entities.Validator.{Validator}
-use Rattle.base_roles.specs.declared.facts.Fact.{Fact}
-use Rattle.base_roles.specs.Ground.{IsInOrder}
-use Rattle.base_roles.specs.Hooks.{Tells, Stands}
-use Rattle.base_roles.specs.Owing.{Lists}
-use Rattle.base_roles.specs.Lent.{IsBurned}
-use Rattle.base_roles.specs.Holdings.{balance_of}
+use Rattle.base_roles.specs.{declared.{entities.Validator.Validator, facts.Fact.Fact}, Ground.IsInOrder}
+use Rattle.base_roles.specs.{Hooks.{Tells, Stands}, Owing.Lists, Lent.IsBurned, Holdings.balance_of}
 use Rattle.base_roles.specs.Staked.{Staked, validator_by_cons, is_unbonded}
-use Rattle.base_roles.specs.StakeChanges.{of_bond, HoldsStake, StakeFalls, StillStand, StillStandByCons}
-use Rattle.base_roles.specs.World.{View}
+use Rattle.base_roles.specs.{StakeChanges.{of_bond, HoldsStake, StakeFalls, StillStand, StillStandByCons}, World.View}
 use Rattle.base_roles.proofs.HookLemmas.{Stand-same}
 
 own_bond : (v : View) (n : ℕ) → of_bond v v.ctx.params.bond_denom n ≡ n

@@ -1,22 +1,14 @@
 -- For callers of slashes: whom they act on, and what a burn of a validator's own tokens leaves.
-use Rattle.std.proofs.Common.{◌≡◌, ◌∙◌, ℕ, ◌+◌, ◌^◌, ◌<◌, Bool, true, false, cond, refl, sym, ap, subst, arith}
-use Rattle.std.specs.Prelude.{Option, Some, None, IsSome, not, ◌&&◌, if◌then◌else◌}
+use Rattle.std.proofs.Common.{◌≡◌, ◌∙◌, ℕ, ◌+◌, ◌^◌, ◌<◌, Bool, true, false, cond, refl, sym, ap, subst, arith, Option, Some, None, IsSome, not, ◌&&◌, if◌then◌else◌}
 use Rattle.std.specs.BTreeMap.{is_at}
 use Rattle.base_types.specs.declared.account.Account.TheVariants as account
 use Rattle.base_types.specs.declared.account.Module.TheVariants as holder
 use Rattle.base_types.specs.Orders.{account_cmp, denom_cmp}
-use Rattle.base_roles.specs.declared.entities.SigningInfo.{SigningInfo}
-use Rattle.base_roles.specs.declared.entities.Validator.{Validator}
+use Rattle.base_roles.specs.declared.{entities.{SigningInfo.SigningInfo, Validator.Validator}, params.Ctx.Ctx}
+use Rattle.base_roles.specs.{Ground.{AreInRange, end_of_blocks}, Hooks.{Tells, Stands}, Owing.Lists}
+use Rattle.base_roles.specs.{Holdings.balance_of, Staked.{is_bonded, is_unbonded}, World.View}
+use Rattle.base_roles.proofs.{BurnLemmas.burns_by_amounts, HookLemmas.Stand-same}
 use Rattle.base_roles_example.specs.Caller.{can_be_slashed, can_be_jailed, can_be_banned, account_of, IsOwnBurnt, IsBurntIfKnown}
-use Rattle.base_roles.specs.declared.params.Ctx.{Ctx}
-use Rattle.base_roles.specs.Ground.{AreInRange, end_of_blocks}
-use Rattle.base_roles.specs.Hooks.{Tells, Stands}
-use Rattle.base_roles.specs.Owing.{Lists}
-use Rattle.base_roles.specs.Holdings.{balance_of}
-use Rattle.base_roles.specs.Staked.{is_bonded, is_unbonded}
-use Rattle.base_roles.specs.World.{View}
-use Rattle.base_roles.proofs.BurnLemmas.{burns_by_amounts}
-use Rattle.base_roles.proofs.HookLemmas.{Stand-same}
 
 -- ---- whom callers act on
 

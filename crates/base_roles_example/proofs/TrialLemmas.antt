@@ -1,15 +1,9 @@
 -- The one validator of a trial, jailed.
-use Rattle.std.proofs.Common.{◌≡◌, ℕ, Bool, true, false, cond, List, [], ◌∷◌, refl, sym, ap, ◌∙◌}
-use Rattle.std.specs.Prelude.{Option, Some, None, option_map, is_some, IsSome, find}
-use Rattle.std.specs.Map.{values_of}
-use Rattle.std.specs.BTreeMap.{is_at}
-use Rattle.std.specs.declared.cmp.Ordering.{Ordering}
-use Rattle.std.specs.declared.cmp.Ordering.TheVariants.{Less, Equal, Greater}
-use Rattle.std.specs.Ordering.{is_eq, match_ordering}
+use Rattle.std.proofs.Common.{◌≡◌, ℕ, Bool, true, false, cond, List, [], ◌∷◌, refl, sym, ap, ◌∙◌, Option, Some, None, option_map, is_some, IsSome, find, Ordering, Less, Equal, Greater, is_eq}
+use Rattle.std.specs.{Map.values_of, BTreeMap.is_at, Ordering.match_ordering}
 use Rattle.std.proofs.lemmas.Cmp.{nat_list_cmp_total, tied_itself}
 use Rattle.base_types.specs.Orders.{addr_cmp, cons_cmp}
-use Rattle.base_roles.specs.declared.entities.Validator.{Validator}
-use Rattle.base_roles.specs.Entries.{at}
+use Rattle.base_roles.specs.{declared.entities.Validator.Validator, Entries.at}
 use Rattle.base_roles.specs.Staked.{validator_at, validator_by_cons, lists_of}
 use Rattle.base_roles.specs.StakeChanges.{but_jailed, SameButJailed, SameButJailedByCons, IsJailed}
 use Rattle.base_roles_example.specs.Trials.{under_own, staked_once, HasOne, jailed, jailed_by_cons}

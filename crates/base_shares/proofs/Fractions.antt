@@ -1,11 +1,9 @@
 -- The recorded fraction of a burn, and what it gives back.
 use Rattle.std.proofs.Math.Nat.{mul-le-mul_right, le_of_mul-le-mul_right, lt_of_mul-lt-mul_right}
-use Rattle.std.proofs.Common.{◌≡◌, ℕ, ◌+◌, ◌*◌, ◌^◌, ◌<◌, ◌≤◌, Ok, arith}
 use Rattle.std.proofs.lemmas.Grind.{common_steps}
-use Rattle.base_decimals.specs.Decimals.{whole_of, digits_36, quo_up_of}
-use Rattle.base_decimals.proofs.Nearest.{up_above}
-use Rattle.base_shares.specs.Burns.{recorded_fraction}
-use Rattle.base_shares.specs.Laws.{FractionIsJustAbove, FractionGivesBurn}
+use Rattle.std.proofs.Common.{◌≡◌, ℕ, ◌+◌, ◌*◌, ◌^◌, ◌<◌, ◌≤◌, Ok, arith}
+use Rattle.base_decimals.{specs.Decimals.{whole_of, digits_36, quo_up_of}, proofs.Nearest.up_above}
+use Rattle.base_shares.specs.{Burns.recorded_fraction, Laws.{FractionIsJustAbove, FractionGivesBurn}}
 use Rattle.base_shares.proofs.Roundings.{cut_low, cut_high, up_high, cut_is}
 
 -- Let one have d units. q is the quotient n / t, cut at two times the digits of a unit, and f is q rounded upward to

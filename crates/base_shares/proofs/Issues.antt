@@ -2,8 +2,7 @@
 use Rattle.std.proofs.Common.{◌≡◌, ℕ, ◌+◌, ◌*◌, ◌^◌, ◌<◌, ◌≤◌, Ok, arith}
 use Rattle.std.proofs.lemmas.Grind.{common_steps}
 use Rattle.base_decimals.specs.Rounding.{cut}
-use Rattle.base_shares.specs.Shares.{issued_shares, shares_for_amount}
-use Rattle.base_shares.specs.Laws.{IssueNeverLowers}
+use Rattle.base_shares.specs.{Shares.{issued_shares, shares_for_amount}, Laws.IssueNeverLowers}
 use Rattle.base_shares.proofs.Roundings.{cut_low}
 
 -- the first shares, and later ones

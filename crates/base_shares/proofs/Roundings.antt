@@ -1,9 +1,7 @@
 -- How far a rounded whole number is from its fraction.
-use Rattle.std.proofs.lemmas.Nat.{mod_below}
-use Rattle.std.proofs.lemmas.Bool.{cases_lt, cases_order}
+use Rattle.std.proofs.lemmas.{Nat.mod_below, Bool.{cases_lt, cases_order}}
 use Rattle.std.proofs.Common.{◌≡◌, ℕ, ◌+◌, ◌-◌, ◌*◌, ◌/◌, ◌%◌, ◌<◌, ◌≤◌, inl, inr, arith}
-use Rattle.base_decimals.specs.Rounding.{cut, up, even}
-use Rattle.base_decimals.proofs.Quotients.{quotient_is}
+use Rattle.base_decimals.{specs.Rounding.{cut, up, even}, proofs.Quotients.quotient_is}
 use Rattle.base_decimals.proofs.Nearest.{parts, up_whole, up_part, factor_le, factor_lt, even_below, even_above, even_tie}
 
 pub cut_low : (a c : ℕ) → 0 < c → cut a c * c ≤ a

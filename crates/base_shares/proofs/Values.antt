@@ -2,8 +2,7 @@
 use Rattle.std.proofs.Math.Nat.{mul-le-mul_right}
 use Rattle.std.proofs.Common.{ℕ, ◌*◌, ◌^◌, ◌<◌, ◌≤◌, arith}
 use Rattle.base_decimals.specs.Decimals.{digits_36, trunc_of}
-use Rattle.base_shares.specs.Shares.{value_even_of, value_cut_of}
-use Rattle.base_shares.proofs.Roundings.{cut_most, even_most}
+use Rattle.base_shares.{specs.Shares.{value_even_of, value_cut_of}, proofs.Roundings.{cut_most, even_most}}
 
 -- 36 digits of the value, as whole units of 10^-18 and 18 digits more
 pub digits_most : (tokens shares part : ℕ) → 0 < shares → part ≤ shares → digits_36 (part * tokens) shares ≤ tokens * 10 ^ 18 * 10 ^ 18

@@ -1,16 +1,8 @@
 -- A change of a place: what is seen, what is listed and how the place is stamped.
-use Rattle.std.specs.Prelude.{◌≡◌, ℕ, ◌+◌, ◌<◌, ◌≤◌, Bool, true, false, List, [], ◌∷◌, ◌++◌, length, Option, Some, None, is_some, option_map, unwrap_or, refl, if◌then◌else◌}
-use Rattle.std.proofs.Common.{sym, ◌∙◌, ap, subst, arith}
-use Rattle.std.specs.declared.cmp.Ordering.{Ordering}
-use Rattle.std.specs.Cmp.{IsTotalOrder, tied_itself}
-use Rattle.std.specs.List.Sorted.{IsStrictlySortedBy}
-use Rattle.std.specs.Map.{keys_of, lookup, lookup_entry, lookup_key}
-use Rattle.std.specs.Option.{option_to_list}
-use Rattle.std.specs.Ordering.{is_eq}
-use Rattle.std.specs.BTreeMap.{insert_entry, is_at}
-use Rattle.base_table.specs.declared.slot.Place.{Place}
-use Rattle.base_table.specs.declared.slot.Slot.{Slot}
-use Rattle.base_table.specs.declared.slot.Slot.TheVariants.{Empty}
+use Rattle.std.proofs.Common.{◌≡◌, ℕ, ◌+◌, ◌<◌, ◌≤◌, Bool, true, false, List, [], ◌∷◌, ◌++◌, length, Option, Some, None, is_some, option_map, unwrap_or, refl, if◌then◌else◌, sym, ◌∙◌, ap, subst, arith, Ordering, option_to_list, is_eq}
+use Rattle.std.specs.{Cmp.{IsTotalOrder, tied_itself}, List.Sorted.IsStrictlySortedBy}
+use Rattle.std.specs.{Map.{keys_of, lookup, lookup_entry, lookup_key}, BTreeMap.{insert_entry, is_at}}
+use Rattle.base_table.specs.declared.slot.{Place.Place, Slot.{Slot, TheVariants.Empty}}
 use Rattle.base_table.specs.Places.{changed, entry_of, filled, is_full, len_changed, name_in, pair_of, slot_at, slot_of, slot_or, slots, stamp_of, stamps, unlisted, value_stamped, AreNamed, AreStamped, IsExchanged, IsNamed}
 use Rattle.base_table.specs.Tabled.{key_in, value_at}
 use Rattle.base_table.proofs.EachLemmas.{insert-each, length-each, lookup-each, lookup_key-each, sorted-each}

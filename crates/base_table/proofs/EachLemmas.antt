@@ -1,14 +1,7 @@
 -- Places told by what stands there, or by their stamps.
-use Rattle.std.specs.Prelude.{◌≡◌, suc, length, Bool, true, false, cond, List, [], ◌∷◌, Some, option_map, refl}
-use Rattle.std.proofs.Common.{sym, ap, subst}
-use Rattle.std.specs.declared.cmp.Ordering.{Ordering}
-use Rattle.std.specs.declared.cmp.Ordering.TheVariants.{Less, Equal, Greater}
-use Rattle.std.specs.declared.ops.Bound.{Bound}
-use Rattle.std.specs.declared.ops.Bound.TheVariants.{Unbounded}
-use Rattle.std.specs.Ordering.{match_ordering}
-use Rattle.std.specs.BTreeMap.{insert_entry}
-use Rattle.std.specs.BTreeMap.Range.{entries_between, range_contains}
-use Rattle.std.specs.List.Sorted.{IsStrictlySortedBy}
+use Rattle.std.proofs.Common.{◌≡◌, suc, length, Bool, true, false, cond, List, [], ◌∷◌, Some, option_map, refl, sym, ap, subst, Ordering, Less, Equal, Greater}
+use Rattle.std.specs.{declared.ops.Bound.{Bound, TheVariants.Unbounded}, Ordering.match_ordering, BTreeMap.insert_entry}
+use Rattle.std.specs.{BTreeMap.Range.{entries_between, range_contains}, List.Sorted.IsStrictlySortedBy}
 use Rattle.std.specs.Map.{keys_of, lookup, lookup_key, remove_entry, set_value}
 use Rattle.base_table.specs.Places.{each}
 

@@ -1,14 +1,8 @@
 -- Lists of entries in the order of their keys, told by the entry that stands at each key.
-use Rattle.std.specs.Prelude.{◌≡◌, Bool, true, false, cond, List, [], ◌∷◌, Option, Some, None, option_map, unwrap_or, refl}
-use Rattle.std.proofs.Common.{sym, ◌∙◌, ap}
-use Rattle.std.specs.declared.cmp.Ordering.{Ordering}
-use Rattle.std.specs.declared.cmp.Ordering.TheVariants.{Less, Equal, Greater}
-use Rattle.std.specs.Ordering.{is_eq, match_ordering, ordering_reverse}
-use Rattle.std.specs.Cmp.{IsTotalOrder, alike_right, tied_itself}
-use Rattle.std.specs.List.{AllByRecursion}
-use Rattle.std.specs.List.Sorted.{IsStrictlySortedBy}
-use Rattle.std.specs.Map.{keys_of, lookup, lookup_entry, lookup_key, remove_entry}
-use Rattle.std.specs.BTreeMap.{insert_entry, is_at}
+use Rattle.std.proofs.Common.{◌≡◌, Bool, true, false, cond, List, [], ◌∷◌, Option, Some, None, option_map, unwrap_or, refl, sym, ◌∙◌, ap, Ordering, Less, Equal, Greater, is_eq}
+use Rattle.std.specs.{Ordering.{match_ordering, ordering_reverse}, Cmp.{IsTotalOrder, alike_right, tied_itself}}
+use Rattle.std.specs.List.{AllByRecursion, Sorted.IsStrictlySortedBy}
+use Rattle.std.specs.{Map.{keys_of, lookup, lookup_entry, lookup_key, remove_entry}, BTreeMap.{insert_entry, is_at}}
 use Rattle.std.proofs.lemmas.Map.Keys.{sorted_head, sorted_tail}
 use Rattle.base_types.proofs.MapLemmas.{all-below, equal}
 use Rattle.base_table.specs.Restored.{with_entry}

@@ -1,19 +1,10 @@
 -- What is always true of places stays, as they change and marks are opened and closed.
-use Rattle.std.specs.Prelude.{◌≡◌, ℕ, zero, suc, ◌+◌, ◌-◌, ◌<◌, Bool, true, false, List, [], ◌∷◌, ◌++◌, length, Option, nat_lt, refl, if◌then◌else◌}
-use Rattle.std.proofs.Common.{sym, ◌∙◌, ap, subst, arith}
-use Rattle.std.proofs.lemmas.List.{length-append}
-use Rattle.std.proofs.lemmas.Bool.Decides.{nat_tests}
-use Rattle.std.specs.declared.cmp.Ordering.{Ordering}
-use Rattle.std.specs.BTreeMap.{insert_entry}
-use Rattle.std.specs.Cmp.{IsTotalOrder}
-use Rattle.std.specs.List.Sorted.{IsStrictlySortedBy}
-use Rattle.std.specs.Map.{keys_of}
-use Rattle.base_table.specs.declared.slot.Slot.{Slot}
-use Rattle.base_table.specs.declared.undo.Point.{Point}
-use Rattle.base_table.specs.declared.undo.Undo.{Undo}
+use Rattle.std.proofs.Common.{◌≡◌, ℕ, zero, suc, ◌+◌, ◌-◌, ◌<◌, Bool, true, false, List, [], ◌∷◌, ◌++◌, length, Option, nat_lt, refl, if◌then◌else◌, sym, ◌∙◌, ap, subst, arith, length-append, Ordering}
+use Rattle.std.{proofs.lemmas.Bool.Decides.nat_tests, specs.{BTreeMap.insert_entry, Cmp.IsTotalOrder}}
+use Rattle.std.specs.{List.Sorted.IsStrictlySortedBy, Map.keys_of}
+use Rattle.base_table.specs.declared.{slot.Slot.Slot, undo.{Point.Point, Undo.Undo}}
 use Rattle.base_table.specs.Places.{filled, marks_of, put_back_slot, slot_at, undo_of, AreNamed, Fits, FitBelow, HavePlaces, IsKept, Marked}
-use Rattle.base_table.proofs.PlaceLemmas.{set-inserted}
-use Rattle.base_table.proofs.PlacedLemmas.{marks_of-placed, FitBelow-placed, Fits-placed}
+use Rattle.base_table.proofs.{PlaceLemmas.set-inserted, PlacedLemmas.{marks_of-placed, FitBelow-placed, Fits-placed}}
 use Rattle.base_table.proofs.UndoLemmas.{has_place, latest-few, length-marks_of, marks_of-more, marks_of-push, FitBelow-push, HavePlaces-insert, HavePlaces-push}
 
 empty : {A : Type 0} (xs : List A) → length xs ≡ 0 → xs ≡ []

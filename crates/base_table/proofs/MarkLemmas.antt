@@ -1,12 +1,7 @@
 -- What marks restore, as marks are opened and closed and keys are touched.
-use Rattle.std.specs.Prelude.{◌≡◌, Bool, List, [], ◌∷◌, ◌++◌, Option, refl}
-use Rattle.std.proofs.Common.{sym, ◌∙◌, ap, subst}
-use Rattle.std.specs.declared.cmp.Ordering.{Ordering}
-use Rattle.std.specs.Cmp.{IsTotalOrder}
-use Rattle.std.specs.List.Sorted.{IsStrictlySortedBy}
-use Rattle.std.specs.Map.{keys_of}
-use Rattle.base_table.specs.Places.{Marked}
-use Rattle.base_table.specs.Restored.{restored, KeepsSettled, MarksRestore}
+use Rattle.std.proofs.Common.{◌≡◌, Bool, List, [], ◌∷◌, ◌++◌, Option, refl, sym, ◌∙◌, ap, subst, Ordering}
+use Rattle.std.specs.{Cmp.IsTotalOrder, List.Sorted.IsStrictlySortedBy, Map.keys_of}
+use Rattle.base_table.specs.{Places.Marked, Restored.{restored, KeepsSettled, MarksRestore}}
 use Rattle.base_table.specs.Tabled.{touched_with, Tabled, IsForgotten, IsGoneBack}
 use Rattle.base_table.proofs.RestoredLemmas.{touched_with-restored}
 

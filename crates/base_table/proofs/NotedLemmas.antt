@@ -1,20 +1,10 @@
 -- A change that is noted and listed: what is always true of places stays, and what is seen of them.
-use Rattle.std.specs.Prelude.{◌≡◌, ◌<◌, ℕ, Bool, true, false, List, [], ◌∷◌, ◌++◌, Option, is_some, refl, if◌then◌else◌}
-use Rattle.std.proofs.Common.{sym, ◌∙◌, ap, subst}
-use Rattle.std.specs.declared.cmp.Ordering.{Ordering}
-use Rattle.std.specs.Cmp.{IsTotalOrder}
-use Rattle.std.specs.List.Sorted.{IsStrictlySortedBy}
-use Rattle.std.specs.Map.{keys_of}
-use Rattle.std.specs.Option.{option_to_list}
-use Rattle.base_table.specs.declared.slot.Place.{Place}
-use Rattle.base_table.specs.declared.slot.Slot.{Slot}
-use Rattle.base_table.specs.declared.undo.Point.{Point}
-use Rattle.base_table.specs.declared.undo.Undo.{Undo}
+use Rattle.std.proofs.Common.{◌≡◌, ◌<◌, ℕ, Bool, true, false, List, [], ◌∷◌, ◌++◌, Option, is_some, refl, if◌then◌else◌, sym, ◌∙◌, ap, subst, Ordering, option_to_list}
+use Rattle.std.specs.{Cmp.IsTotalOrder, List.Sorted.IsStrictlySortedBy, Map.keys_of}
+use Rattle.base_table.specs.declared.{slot.{Place.Place, Slot.Slot}, undo.{Point.Point, Undo.Undo}}
 use Rattle.base_table.specs.Places.{changed, filled, is_full, len_changed, marks_of, slots, stamps, undo_of, AreStamped, IsExchanged, IsKept, Marked}
-use Rattle.base_table.specs.Tabled.{touched_with}
-use Rattle.base_table.proofs.ChangeLemmas.{count-changed, sorted-slots}
-use Rattle.base_table.proofs.KeptLemmas.{marks-changed, seen, IsKept-changed}
-use Rattle.base_table.proofs.StampLemmas.{listed_with}
+use Rattle.base_table.{specs.Tabled.touched_with, proofs.ChangeLemmas.{count-changed, sorted-slots}}
+use Rattle.base_table.proofs.{KeptLemmas.{marks-changed, seen, IsKept-changed}, StampLemmas.listed_with}
 
 -- the log and the list with room for one more, `log` and `list`, are those that there were
 module _ {K V : Type 0} {R : K → K → Ordering} (o : IsTotalOrder R) (us log new : List (Undo K V)) (here : Point) (depth len : ℕ) (k noted : K) (ps qs : List (K × Place K V)) (value : Option V)

@@ -1,22 +1,14 @@
 -- What is seen of places, as one of them changes.
-use Rattle.std.specs.Prelude.{◌≡◌, suc, ◌+◌, ◌≤◌, Bool, true, false, cond, List, [], ◌∷◌, ◌++◌, length, Option, Some, None, is_some, option_map, unwrap_or, Result, Ok, Err, IfOk, refl}
-use Rattle.std.proofs.Common.{sym, ◌∙◌, ap, subst, arith}
-use Rattle.std.specs.declared.cmp.Ordering.{Ordering}
-use Rattle.std.specs.declared.cmp.Ordering.TheVariants.{Less, Equal, Greater}
-use Rattle.std.specs.Ordering.{is_eq, match_ordering}
-use Rattle.std.specs.Cmp.{IsTotalOrder, alike_right, tied_itself}
-use Rattle.std.specs.List.{AllByRecursion}
+use Rattle.std.proofs.Common.{◌≡◌, suc, ◌+◌, ◌≤◌, Bool, true, false, cond, List, [], ◌∷◌, ◌++◌, length, Option, Some, None, is_some, option_map, unwrap_or, Result, Ok, Err, IfOk, refl, sym, ◌∙◌, ap, subst, arith, Ordering, Less, Equal, Greater, is_eq, option_to_list}
+use Rattle.std.specs.{Ordering.match_ordering, Cmp.{IsTotalOrder, alike_right, tied_itself}, List.AllByRecursion}
 use Rattle.std.specs.List.Sorted.{IsStrictlySortedBy}
 use Rattle.std.specs.Map.{keys_of, lookup, lookup_entry, lookup_key, remove_entry, set_value}
-use Rattle.std.specs.Option.{option_to_list}
-use Rattle.std.specs.BTreeMap.{insert_entry, is_at}
-use Rattle.std.proofs.lemmas.Map.Keys.{sorted_head, sorted_tail}
-use Rattle.base_table.specs.declared.slot.Slot.{Slot}
-use Rattle.base_table.specs.declared.slot.Slot.TheVariants.{Empty, Filled, Renamed}
+use Rattle.std.{specs.BTreeMap.{insert_entry, is_at}, proofs.lemmas.Map.Keys.{sorted_head, sorted_tail}}
+use Rattle.base_table.specs.declared.slot.Slot.{Slot, TheVariants.{Empty, Filled, Renamed}}
 use Rattle.base_table.specs.Places.{changed, entry_of, filled, is_full, len_changed, name_in, pair_of, slot_at, AreNamed, IsNamed}
 use Rattle.base_table.specs.Tabled.{key_in, value_at}
-use Rattle.base_types.proofs.MapLemmas.{all-below, ascend-put, ascend-taken, equal}
 use Rattle.base_table.proofs.EntryLemmas.{alike_is_at, entry_below, entry-insert_other, entry-remove_entry, lookup_is, lookup_key_is, same_entries, sorted-cons, tied_entry}
+use Rattle.base_types.proofs.MapLemmas.{all-below, ascend-put, ascend-taken, equal}
 
 -- the first that is there
 abbrev pub or_else : {A : Type 0} → Option A → Option A → Option A

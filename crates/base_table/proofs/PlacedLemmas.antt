@@ -1,21 +1,10 @@
 -- An empty place that is made for a key changes nothing that is seen, now or at a mark.
-use Rattle.std.specs.Prelude.{◌≡◌, ℕ, Bool, true, false, cond, List, [], ◌∷◌, ◌++◌, length, Option, Some, None, is_some, unwrap_or, refl}
-use Rattle.std.proofs.Common.{sym, ◌∙◌, ap, subst}
-use Rattle.std.specs.declared.cmp.Ordering.{Ordering}
-use Rattle.std.specs.declared.cmp.Ordering.TheVariants.{Less, Equal, Greater}
-use Rattle.std.specs.Cmp.{IsTotalOrder, alike_right}
-use Rattle.std.specs.List.Sorted.{IsStrictlySortedBy}
-use Rattle.std.specs.Map.{keys_of, lookup, set_value}
-use Rattle.std.specs.Option.{option_to_list}
-use Rattle.std.specs.Ordering.{is_eq, match_ordering}
-use Rattle.std.specs.BTreeMap.{insert_entry, is_at}
-use Rattle.base_table.specs.declared.slot.Slot.{Slot}
-use Rattle.base_table.specs.declared.slot.Slot.TheVariants.{Empty}
-use Rattle.base_table.specs.declared.undo.Point.{Point}
-use Rattle.base_table.specs.declared.undo.Undo.{Undo}
+use Rattle.std.proofs.Common.{◌≡◌, ℕ, Bool, true, false, cond, List, [], ◌∷◌, ◌++◌, length, Option, Some, None, is_some, unwrap_or, refl, sym, ◌∙◌, ap, subst, Ordering, Less, Equal, Greater, option_to_list, is_eq}
+use Rattle.std.specs.{Cmp.{IsTotalOrder, alike_right}, List.Sorted.IsStrictlySortedBy, Map.{keys_of, lookup, set_value}}
+use Rattle.std.specs.{Ordering.match_ordering, BTreeMap.{insert_entry, is_at}}
+use Rattle.base_table.specs.declared.{slot.Slot.{Slot, TheVariants.Empty}, undo.{Point.Point, Undo.Undo}}
 use Rattle.base_table.specs.Places.{entry_of, filled, marks_below, marks_of, rewound, slot_at, times, AreNamed, Fits, FitBelow, HavePlaces}
-use Rattle.base_table.proofs.EntryLemmas.{tied_lookup}
-use Rattle.base_table.proofs.PlaceLemmas.{insert-same, AreNamed-insert}
+use Rattle.base_table.proofs.{EntryLemmas.tied_lookup, PlaceLemmas.{insert-same, AreNamed-insert}}
 
 none-set : {K X : Type 0} (look test : K → Bool) (ps : List (K × X)) (x : X) → lookup look ps ≡ None → lookup look (set_value test ps x) ≡ None
 none-set look test [] x none = refl

@@ -1,15 +1,10 @@
 -- The entries at the last settling, as entries and a touched list tell them, stay through changes.
-use Rattle.std.specs.Prelude.{◌≡◌, true, false, cond, List, [], ◌∷◌, ◌++◌, Option, Some, None, is_some, option_map, unwrap_or, refl, if◌then◌else◌}
-use Rattle.std.proofs.Common.{sym, ◌∙◌, ap, subst}
-use Rattle.std.specs.declared.cmp.Ordering.{Ordering}
-use Rattle.std.specs.Cmp.{IsTotalOrder}
-use Rattle.std.specs.List.Sorted.{IsStrictlySortedBy}
-use Rattle.std.specs.Map.{keys_of, lookup, lookup_entry, lookup_key, remove_entry}
-use Rattle.std.specs.BTreeMap.{insert_entry, is_at}
-use Rattle.base_table.specs.Restored.{put_back, restored, KeepsSettled}
-use Rattle.base_table.specs.Tabled.{key_in, touched_with, value_at}
-use Rattle.base_types.proofs.MapLemmas.{ascend-put, ascend-taken}
+use Rattle.std.proofs.Common.{◌≡◌, true, false, cond, List, [], ◌∷◌, ◌++◌, Option, Some, None, is_some, option_map, unwrap_or, refl, if◌then◌else◌, sym, ◌∙◌, ap, subst, Ordering}
+use Rattle.std.specs.{Cmp.IsTotalOrder, List.Sorted.IsStrictlySortedBy}
+use Rattle.std.specs.{Map.{keys_of, lookup, lookup_entry, lookup_key, remove_entry}, BTreeMap.{insert_entry, is_at}}
+use Rattle.base_table.specs.{Restored.{put_back, restored, KeepsSettled}, Tabled.{key_in, touched_with, value_at}}
 use Rattle.base_table.proofs.EntryLemmas.{alike_is_at, entry-insert_other, entry-remove_entry, entry-with_entry, lookup_is, lookup_key_is, same_entries, sorted-with_entry, tied_entry, tied_lookup}
+use Rattle.base_types.proofs.MapLemmas.{ascend-put, ascend-taken}
 
 -- the entry that a listed pair tells
 abbrev pub pair_entry : {K V : Type 0} → K × Option V → Option (K × V)

@@ -1,17 +1,10 @@
 -- What stamps tell of the touched list.
-use Rattle.std.specs.Prelude.{◌≡◌, ℕ, zero, suc, ◌+◌, true, false, cond, List, [], ◌∷◌, ◌++◌, length, Option, Some, None, is_some, unwrap_or, refl, if◌then◌else◌}
-use Rattle.std.proofs.Common.{sym, ◌∙◌, ap, subst, arith}
-use Rattle.std.specs.declared.cmp.Ordering.{Ordering}
-use Rattle.std.specs.Cmp.{IsTotalOrder, tied_itself}
-use Rattle.std.specs.List.{slice_get, AllByRecursion, IsDistinct}
-use Rattle.std.specs.Map.{keys_of, lookup}
-use Rattle.std.specs.Option.{option_to_list}
-use Rattle.std.specs.Ordering.{eq_by_cmp, is_eq}
-use Rattle.std.specs.BTreeMap.{insert_entry, is_at}
+use Rattle.std.proofs.Common.{◌≡◌, ℕ, zero, suc, ◌+◌, true, false, cond, List, [], ◌∷◌, ◌++◌, length, Option, Some, None, is_some, unwrap_or, refl, if◌then◌else◌, sym, ◌∙◌, ap, subst, arith, Ordering, slice_get, option_to_list, is_eq}
+use Rattle.std.specs.{Cmp.{IsTotalOrder, tied_itself}, List.{AllByRecursion, IsDistinct}, Map.{keys_of, lookup}}
+use Rattle.std.specs.{Ordering.eq_by_cmp, BTreeMap.{insert_entry, is_at}}
 use Rattle.base_types.proofs.MapLemmas.{at-put, equal}
 use Rattle.base_table.specs.Places.{pair_value, unlisted, value_stamped, AreStamped}
-use Rattle.base_table.specs.Tabled.{key_in, touched_with, value_at}
-use Rattle.base_table.proofs.EntryLemmas.{tied_lookup}
+use Rattle.base_table.{specs.Tabled.{key_in, touched_with, value_at}, proofs.EntryLemmas.tied_lookup}
 use Rattle.base_table.proofs.RestoredLemmas.{key_in-tied}
 
 later : (n i : ℕ) → suc n + i ≡ n + suc i

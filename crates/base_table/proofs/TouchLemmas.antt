@@ -1,14 +1,7 @@
 -- What a table's touched list tells of the last settling.
-use Rattle.std.specs.Prelude.{◌≡◌, List, Option}
-use Rattle.std.proofs.Common.{sym, ◌∙◌, ap, subst}
-use Rattle.std.specs.declared.cmp.Ordering.{Ordering}
-use Rattle.std.specs.Cmp.{IsTotalOrder}
-use Rattle.std.specs.List.{IsDistinct}
-use Rattle.std.specs.List.Sorted.{IsStrictlySortedBy}
-use Rattle.std.specs.Map.{keys_of}
-use Rattle.std.specs.Ordering.{eq_by_cmp}
-use Rattle.base_table.specs.Restored.{restored}
-use Rattle.base_table.specs.Tabled.{value_at, Tabled, TellsSettled}
+use Rattle.std.proofs.Common.{◌≡◌, List, Option, sym, ◌∙◌, ap, subst, Ordering}
+use Rattle.std.specs.{Cmp.IsTotalOrder, List.{IsDistinct, Sorted.IsStrictlySortedBy}, Map.keys_of, Ordering.eq_by_cmp}
+use Rattle.base_table.specs.{Restored.restored, Tabled.{value_at, Tabled, TellsSettled}}
 use Rattle.base_table.proofs.RestoredLemmas.{sorted-restored, value-listed, value-other}
 
 pub tells : {K V : Type 0} {R : K → K → Ordering} (o : IsTotalOrder R) (t : Tabled K V) (ts : List (K × Option V)) (es : List (K × V)) → IsStrictlySortedBy R (keys_of es) → IsDistinct (eq_by_cmp R) (keys_of ts)

@@ -1,19 +1,11 @@
 -- The entries at open marks, as changes are noted and undone.
-use Rattle.std.specs.Prelude.{◌≡◌, Bool, true, false, cond, Some, None, is_some, option_map, ℕ, zero, suc, ◌+◌, ◌-◌, ◌<◌, ◌≤◌, List, [], ◌∷◌, ◌++◌, length, take, drop, refl}
-use Rattle.std.proofs.Common.{get_or, set, sym, ◌∙◌, ap, subst, append_assoc, add-one, arith}
-use Rattle.std.proofs.lemmas.List.{append-nil, drop-set, drop_more, length-append, take-append-drop, take-set}
-use Rattle.std.specs.declared.cmp.Ordering.{Ordering}
-use Rattle.std.specs.BTreeMap.{insert_entry, is_at}
-use Rattle.std.specs.Cmp.{IsTotalOrder, tied_itself}
-use Rattle.std.specs.Map.{lookup, set_value}
-use Rattle.std.specs.Ordering.{is_eq}
+use Rattle.std.proofs.Common.{◌≡◌, Bool, true, false, cond, Some, None, is_some, option_map, ℕ, zero, suc, ◌+◌, ◌-◌, ◌<◌, ◌≤◌, List, [], ◌∷◌, ◌++◌, length, take, drop, refl, get_or, set, sym, ◌∙◌, ap, subst, append_assoc, add-one, arith, append-nil, length-append, take-append-drop, Ordering, is_eq}
+use Rattle.std.{proofs.lemmas.List.{drop-set, drop_more, take-set}, specs.BTreeMap.{insert_entry, is_at}}
+use Rattle.std.specs.{Cmp.{IsTotalOrder, tied_itself}, Map.{lookup, set_value}}
 use Rattle.base_types.proofs.MapLemmas.{at-put}
-use Rattle.base_table.specs.declared.slot.Place.{Place}
-use Rattle.base_table.specs.declared.slot.Slot.{Slot}
-use Rattle.base_table.specs.declared.undo.Undo.{Undo}
+use Rattle.base_table.specs.declared.{slot.{Place.Place, Slot.Slot}, undo.Undo.Undo}
 use Rattle.base_table.specs.Places.{filled, marks_below, marks_of, put_back_slot, rewound, slot_of, slots, stamp_of, stamps, times, Fits, FitBelow, HavePlaces}
-use Rattle.base_table.proofs.EachLemmas.{lookup-each, set-each}
-use Rattle.base_table.proofs.PlaceLemmas.{set_value-absent, set_value-same}
+use Rattle.base_table.proofs.{EachLemmas.{lookup-each, set-each}, PlaceLemmas.{set_value-absent, set_value-same}}
 
 pub length-times : {A : Type 0} (n : ℕ) (x : A) → length (times n x) ≡ n
 length-times zero x = refl

@@ -1,18 +1,9 @@
 -- What a walk over places sees.
-use Rattle.std.specs.Prelude.{◌≡◌, true, false, ◌&&◌, cond, List, [], ◌∷◌, ◌++◌, Option, Some, None, is_some, option_map, filter, refl}
-use Rattle.std.proofs.Common.{sym, ◌∙◌, ap}
-use Rattle.std.specs.declared.cmp.Ordering.{Ordering}
-use Rattle.std.specs.declared.ops.Bound.{Bound}
-use Rattle.std.specs.declared.ops.Bound.TheVariants.{Included, Excluded, Unbounded}
-use Rattle.std.specs.Cmp.{IsTotalOrder, alike_right}
-use Rattle.std.specs.Ordering.{is_le, is_lt}
-use Rattle.std.specs.Option.{option_to_list}
-use Rattle.std.specs.BTreeMap.{is_at}
-use Rattle.std.specs.BTreeMap.Range.{entries_between, range_contains}
-use Rattle.base_table.specs.declared.slot.Slot.{Slot}
-use Rattle.base_table.specs.declared.slot.Slot.TheVariants.{Empty, Filled, Renamed}
-use Rattle.base_table.specs.Places.{bound_above, entry_of, filled, AreNamed, IsNamed}
-use Rattle.base_table.specs.Tabled.{entry_above, first_of}
+use Rattle.std.proofs.Common.{◌≡◌, true, false, ◌&&◌, cond, List, [], ◌∷◌, ◌++◌, Option, Some, None, is_some, option_map, filter, refl, sym, ◌∙◌, ap, Ordering, is_le, is_lt, option_to_list}
+use Rattle.std.specs.declared.ops.Bound.{Bound, TheVariants.{Included, Excluded, Unbounded}}
+use Rattle.std.specs.{Cmp.{IsTotalOrder, alike_right}, BTreeMap.{is_at, Range.{entries_between, range_contains}}}
+use Rattle.base_table.specs.declared.slot.Slot.{Slot, TheVariants.{Empty, Filled, Renamed}}
+use Rattle.base_table.specs.{Places.{bound_above, entry_of, filled, AreNamed, IsNamed}, Tabled.{entry_above, first_of}}
 use Rattle.base_types.proofs.MapLemmas.{equal}
 
 pub is_some-map : {A B : Type 0} (f : A → B) (x : Option A) → is_some (option_map f x) ≡ is_some x

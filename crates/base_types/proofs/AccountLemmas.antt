@@ -3,10 +3,9 @@ use Rattle.std.proofs.Common.{◌≡◌, sym, refl, ℕ, List, Bool, true, false
 use Rattle.std.proofs.lemmas.Slice.Eq.{bytes_eq-Decides}
 use Rattle.base_types.specs.declared.account.Module.{Module}
 use Rattle.base_types.specs.declared.account.Module.TheVariants.{FeeCollector, Bonded, NotBonded, Distribution}
-use Rattle.base_types.specs.declared.account.Account.TheVariants as account
-use Rattle.base_types.specs.Modules.{module_bytes, module_name}
-use Rattle.base_types.specs.Address.{address_of}
+use Rattle.base_types.specs.{Modules.{module_bytes, module_name}, Address.address_of}
 use Rattle.base_types.specs.Accounts.{user_or_module, account_from, account_bytes}
+use Rattle.base_types.specs.declared.account.Account.TheVariants as account
 
 kept : (bytes : List ℕ) (first second third fourth : Bool) → (first ≡ true → bytes ≡ module_bytes FeeCollector) → (second ≡ true → bytes ≡ module_bytes Bonded)
     → (third ≡ true → bytes ≡ module_bytes NotBonded) → (fourth ≡ true → bytes ≡ module_bytes Distribution)

@@ -1,14 +1,10 @@
 -- Reading by pairs of digits, against `hex`, which reads capital letters too.
 use Rattle.std.proofs.Common.{◌≡◌, ◌∙◌, sym, ap, refl, ℕ, zero, suc, ◌+◌, ◌*◌, ◌/◌, ◌%◌, ◌<◌, List, [], ◌∷◌, length, slice_index, Bool, true, false, ◌&&◌, ◌==◌, is_some, cond, Option, Some, None, Result, Ok, Err, arith, eq-eqb, eqb-true}
-use Rattle.std.specs.Result.{result_ok}
-use Rattle.std.specs.List.{list_all}
-use Rattle.std.proofs.lemmas.Bool.{and_parts}
-use Rattle.std.proofs.lemmas.Bool.Decides.{nat_tests}
+use Rattle.std.{specs.{Result.result_ok, List.list_all}, proofs.lemmas.Bool.{and_parts, Decides.nat_tests}}
 use Rattle.hex.specs.declared.error.FromHexError.{FromHexError}
 use Rattle.hex.specs.Hex.{◌>>=◌ as ◌>>=ʰ◌, decode_pairs, pair_value, value_at, digit_or_error, hex_digit_value, encode_with, encode_lower, lower_digits, IsBytes}
 use Rattle.hex.proofs.HexLemmas.{length-encode_with, decode_pairs-encode_with, IsDigits-lower_digits}
-use Rattle.base_types.specs.Maybe.{◌>>=◌}
-use Rattle.base_types.specs.Address.{digit_of, is_digit, bytes_of, address_of, address_text, IsAddress}
+use Rattle.base_types.specs.{Maybe.{◌>>=◌}, Address.{digit_of, is_digit, bytes_of, address_of, address_text, IsAddress}}
 
 -- ---- one digit
 

@@ -1,10 +1,7 @@
 -- The date that is counted off is the one whose number the calendar has.
 use Rattle.std.proofs.Common.{◌≡◌, ◌∙◌, ℕ, zero, suc, ◌+◌, ◌-◌, ◌*◌, ◌/◌, ◌≤◌, ◌<◌, Bool, true, false, cond, nat_lt, ℤ, pos, refl, sym, arith, ◌⊎◌, inl, inr}
-use Rattle.std.proofs.lemmas.Bool.{cases_order}
-use Rattle.std.proofs.lemmas.Bool.Decides.{nat_tests}
-use Rattle.std.proofs.lemmas.Int.{ints}
-use Rattle.jiff_core.specs.declared.civil.date.Date.{Date}
-use Rattle.jiff_core.specs.Date.{epoch_day}
+use Rattle.std.proofs.lemmas.{Bool.{cases_order, Decides.nat_tests}, Int.ints}
+use Rattle.jiff_core.specs.{declared.civil.date.Date.Date, Date.epoch_day}
 use Rattle.jiff_core.specs.Calendar.{IsDate, IsCivilDate, days_in_month, days_in_year, days_of_months, days_from_civil, day_count, day_of_year}
 use Rattle.jiff_core.proofs.CalendarLemmas.{days_from_civil-day_count, day_count-day_of_year, day_count-later_year, day_count-next_year, day_count-epoch, day_count-end, days_in_month_bounds, days_in_year_bounds, days_of_months-zero, days_of_months_more, days_of_months_all, days_of_months_mono}
 use Rattle.jiff_core.proofs.DateLemmas.{epoch_day_injective}

@@ -1,12 +1,9 @@
 -- Dates as `jiff` takes and numbers them, against dates of unsigned numbers.
 use Rattle.std.proofs.Common.{◌≡◌, ◌∙◌, ℕ, ◌+◌, ◌≤◌, ◌<◌, true, ◌&&◌, nat_le, pos, ◌≤ℤ◌, refl, arith, ◌⊎◌, inl, inr, Some}
-use Rattle.std.proofs.lemmas.Int.{ints}
-use Rattle.std.proofs.lemmas.Bool.{and_parts}
-use Rattle.std.proofs.lemmas.Bool.Decides.{nat_tests}
+use Rattle.std.proofs.lemmas.{Int.ints, Bool.{and_parts, Decides.nat_tests}}
 use mir.Val.{to_z}
 use mir.Syntax.{w8, w16}
-use Rattle.jiff_core.specs.declared.civil.date.Date.{Date}
-use Rattle.jiff_core.specs.Date.{IsYmd, epoch_day}
+use Rattle.jiff_core.specs.{declared.civil.date.Date.Date, Date.{IsYmd, epoch_day}}
 use Rattle.jiff_core.specs.Calendar.{IsDate, IsCivilDate, days_in_month, days_from_civil, day_count, day_of_year, days_in_year}
 use Rattle.jiff_core.proofs.CalendarLemmas.{days_from_civil-day_count, day_count-day_of_year, day_count-later_year, day_count-epoch, days_in_month_bounds}
 use Rattle.base_types.specs.Calendar.{is_date, day_of, day_number}

@@ -1,10 +1,7 @@
 -- The places of a denomination, and its bytes.
 use Rattle.std.proofs.Common.{◌≡◌, refl, ℕ, ◌≤◌, List, [], ◌∷◌, ◌++◌, length, take, drop, replicate, true, arith}
-use Rattle.std.proofs.lemmas.List.{drop-replicate}
-use Rattle.std.proofs.lemmas.Bool.Decides.{nat_tests}
-use Rattle.std.proofs.lemmas.Grind.{common_steps}
-use Rattle.base_types.specs.Padded.{IsPadded, padded}
-use Rattle.base_types.specs.Denom.{is_denom}
+use Rattle.std.proofs.lemmas.{List.drop-replicate, Bool.Decides.nat_tests, Grind.common_steps}
+use Rattle.base_types.specs.{Padded.{IsPadded, padded}, Denom.is_denom}
 
 -- a denomination has at most 128 bytes
 pub length-denom : (name : List ℕ) → is_denom name ≡ true → length name ≤ 128

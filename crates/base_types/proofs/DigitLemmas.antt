@@ -1,17 +1,10 @@
 -- Reading and printing digits by tables, one after the other.
-use Rattle.std.proofs.Common.{◌≡◌, ◌∙◌, sym, ap, refl, ℕ, ◌+◌, ◌*◌, ◌<◌, ◌≤◌, List, [], ◌∷◌, ◌++◌, length, slice_index, slice_set, take, drop, Option, Some, None, arith, unwrap_or, map, nat_lt, true, ◌==◌, eq-eqb}
-use Rattle.std.proofs.lemmas.List.{append_assoc, append-nil, drop_all, drop_more, take_all, take_more_set}
-use Rattle.std.proofs.lemmas.Bool.Decides.{nat_tests}
-use Rattle.std.specs.Str.{IsAscii, IsUtf8}
-use Rattle.std.specs.List.{list_all, range_with_len}
-use Rattle.std.proofs.lemmas.List.FromFn.{get_or-map-range_with_len}
-use Rattle.std.proofs.lemmas.Bool.{and_parts, ltb-true}
-use Rattle.std.proofs.lemmas.Str.{IsUtf8-from_ascii}
-use Rattle.std.proofs.lemmas.Str.Ascii.{IsAscii-cons, IsAscii-nil}
-use Rattle.hex.specs.Hex.{lower_digits}
-use Rattle.hex.proofs.HexLemmas.{IsAscii-encode_with}
-use Rattle.base_types.specs.declared.digits.TheConstants.{VALUES}
-use Rattle.base_types.specs.Maybe.{◌>>=◌}
+use Rattle.std.proofs.Common.{◌≡◌, ◌∙◌, sym, ap, refl, ℕ, ◌+◌, ◌*◌, ◌<◌, ◌≤◌, List, [], ◌∷◌, ◌++◌, length, slice_index, slice_set, take, drop, Option, Some, None, arith, unwrap_or, map, nat_lt, true, ◌==◌, eq-eqb, append_assoc, append-nil, take_all, IsAscii, IsUtf8, ltb-true}
+use Rattle.std.proofs.lemmas.{List.{drop_all, drop_more, take_more_set}, Bool.Decides.nat_tests}
+use Rattle.std.proofs.lemmas.{List.FromFn.get_or-map-range_with_len, Bool.and_parts, Str.IsUtf8-from_ascii}
+use Rattle.std.{proofs.lemmas.Str.Ascii.{IsAscii-cons, IsAscii-nil}, specs.List.{list_all, range_with_len}}
+use Rattle.hex.{specs.Hex.lower_digits, proofs.HexLemmas.IsAscii-encode_with}
+use Rattle.base_types.specs.{declared.digits.TheConstants.VALUES, Maybe.{◌>>=◌}}
 use Rattle.base_types.specs.Address.{digit_of, bytes_of, address_of, address_text}
 
 -- ---- the table of values

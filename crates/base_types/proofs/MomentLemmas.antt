@@ -1,14 +1,11 @@
 -- What is printed of a moment is read as the same moment.
-use Rattle.std.proofs.Common.{◌≡◌, ◌∙◌, ℕ, zero, suc, ◌+◌, ◌-◌, ◌*◌, ◌/◌, ◌%◌, ◌^◌, ◌≤◌, ◌<◌, ◌≢◌, true, false, ◌==◌, nat_lt, List, [], ◌∷◌, ◌++◌, slice_index, Some, refl, ap, arith, ne_eqb, pos, unsigned_abs, ◌⊎◌, inl, inr}
+use Rattle.std.proofs.Common.{◌≡◌, ◌∙◌, ℕ, zero, suc, ◌+◌, ◌-◌, ◌*◌, ◌/◌, ◌%◌, ◌^◌, ◌≤◌, ◌<◌, ◌≢◌, true, false, ◌==◌, nat_lt, List, [], ◌∷◌, ◌++◌, slice_index, Some, refl, ap, arith, ne_eqb, pos, unsigned_abs, ◌⊎◌, inl, inr, div-add-mod'}
 use Rattle.std.proofs.Math.Nat.{pow-succ', pow-le-pow_right, mul-le-mul_right, div-lt_iff_lt-mul, mod-lt}
-use Rattle.std.proofs.lemmas.Nat.{div-add-mod'}
-use Rattle.std.proofs.lemmas.Bool.Decides.{nat_tests}
-use Rattle.std.specs.Char.{is_ascii_digit}
+use Rattle.std.{proofs.lemmas.Bool.Decides.nat_tests, specs.Char.is_ascii_digit}
 use Rattle.jiff_core.specs.Calendar.{IsDate}
 use Rattle.base_types.specs.Calendar.{end_of_time, is_date, second_of, day_number, date_of}
 use Rattle.base_types.specs.Moment.{pair, digits_of, fraction_of, day_at, second_at, moment_of, digits, fraction_text, date_text, clock_text, moment_text}
-use Rattle.base_types.proofs.DayLemmas.{test_date, date_bounds}
-use Rattle.base_types.proofs.DateLemmas.{IsDateOf, date_of-is}
+use Rattle.base_types.proofs.{DayLemmas.{test_date, date_bounds}, DateLemmas.{IsDateOf, date_of-is}}
 
 pub ten_times : (p : ℕ) → 0 < p → 10 ^ p ≡ 10 * 10 ^ (p - 1)
 ten_times zero h = absurd (omega arith)

@@ -1,15 +1,13 @@
 -- The derived comparisons of accounts are those by address, with the modules last, and tell all accounts apart.
-use Rattle.std.proofs.Common.{◌≡◌, refl, sym, ap, Bool}
-use Rattle.std.proofs.lemmas.Map.Lookups.{CmpEqualImpliesEq, exact_bytes}
-use Rattle.std.proofs.lemmas.Map.Text.{is_eq-slice_cmp}
+use Rattle.std.proofs.Common.{◌≡◌, refl, sym, ap, Bool, Ordering}
+use Rattle.std.proofs.lemmas.Map.{Lookups.{CmpEqualImpliesEq, exact_bytes}, Text.is_eq-slice_cmp}
 use Rattle.std.specs.BTreeMap.{is_at}
-use Rattle.std.specs.declared.cmp.Ordering.{Ordering}
 use Rattle.base_types.specs.declared.account.Account.{Account}
-use Rattle.base_types.specs.declared.account.Account.TheVariants as account
 use Rattle.base_types.specs.declared.account.Module.TheVariants.{FeeCollector, Bonded, NotBonded, Distribution}
 use Rattle.base_types.specs.contracts.account.AccountOrd.TheImpl.{ghosts}
 use Rattle.base_types.specs.contracts.account.AccountPartialEq.TheImpl.{ghosts as equal_ghosts}
 use Rattle.base_types.specs.Orders.{account_cmp}
+use Rattle.base_types.specs.declared.account.Account.TheVariants as account
 
 -- what `cmp` of two accounts answers
 abbrev pub account_order : Account → Account → Ordering

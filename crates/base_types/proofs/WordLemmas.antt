@@ -1,12 +1,7 @@
 -- Lists of bytes lie as the numbers that their parts spell.
-use Rattle.std.proofs.Common.{◌≡◌, ◌∙◌, sym, ap, refl, ℕ, zero, suc, ◌+◌, ◌*◌, ◌<◌, ◌≤◌, List, [], ◌∷◌, length, take, drop, length-drop, ◌&&◌, ◌==◌, arith, nat_eq}
-use Rattle.std.proofs.lemmas.List.{get_or-drop, length-take-le, take_all}
-use Rattle.std.specs.declared.cmp.Ordering.{Ordering}
-use Rattle.std.specs.declared.cmp.Ordering.TheVariants.{Less, Equal, Greater}
-use Rattle.std.specs.Ordering.{nat_cmp, ordering_then, is_eq, MatchOrdering}
-use Rattle.std.specs.Cmp.{nat_cmp_is, ranks, unsigned_ties, both_tied}
-use Rattle.std.specs.Cmp.Lexicographic.{pointwise, slice_cmp, texts_ties}
-use Rattle.std.specs.Slice.Scan.{big_endian}
+use Rattle.std.proofs.Common.{◌≡◌, ◌∙◌, sym, ap, refl, ℕ, zero, suc, ◌+◌, ◌*◌, ◌<◌, ◌≤◌, List, [], ◌∷◌, length, take, drop, length-drop, ◌&&◌, ◌==◌, arith, nat_eq, get_or-drop, length-take-le, take_all, Ordering, Less, Equal, Greater, nat_cmp, is_eq}
+use Rattle.std.specs.{Ordering.{ordering_then, MatchOrdering}, Cmp.{nat_cmp_is, ranks, unsigned_ties, both_tied}}
+use Rattle.std.specs.{Cmp.Lexicographic.{pointwise, slice_cmp, texts_ties}, Slice.Scan.big_endian}
 use Rattle.hex.specs.Hex.{IsBytes}
 use Rattle.base_types.specs.Words.{number_at}
 

@@ -1,25 +1,17 @@
 -- A block over the modules: facts that are taken out between its parts, and what is left once it is applied or given up.
 use Rattle.std.proofs.Common.{◌≡◌, ◌∙◌, ◌<◌, ◌^◌, List, [], Ok, Err, sym, ap, subst}
-use Rattle.base_roles.specs.declared.facts.Fact.{Fact}
-use Rattle.base_roles.specs.declared.faults.HookFault.{HookFault}
-use Rattle.base_roles.specs.declared.params.Ctx.{Ctx}
-use Rattle.base_roles.specs.World.{View}
-use Rattle.base_messages.specs.declared.block.Block.{Block}
-use Rattle.base_messages.specs.declared.report.TxReport.{TxReport}
+use Rattle.base_roles.specs.{declared.{facts.Fact.Fact, faults.HookFault.HookFault, params.Ctx.Ctx}, World.View}
+use Rattle.base_messages.specs.declared.{block.Block.Block, report.TxReport.TxReport}
 use Rattle.rule_modules.specs.Chain.{State, begin_block, end_block}
-use Rattle.rule_machine.specs.GenesisState.{without_facts}
-use Rattle.rule_machine.specs.Machine.{TxSteps, block_checked, txs_applied}
+use Rattle.rule_machine.specs.{GenesisState.without_facts, Machine.{TxSteps, block_checked, txs_applied}}
 use Rattle.chain_modules.specs.declared.modules.Modules.{Modules}
 use Rattle.chain_modules.specs.Kept.{KeptState, AreSteady, StandsWhole, kept_of, kept_over, parts_of}
 use Rattle.chain_modules.specs.Marks.{AreAtRest, AreClosed, AreOpen, behind_of, marks_of, opened, settled_of}
 use Rattle.chain_modules.proofs.MarkLemmas.{closed_again, marks_behind, open_again, restored}
-use Rattle.chain_modules.proofs.StandLemmas.{stands_for, stands_same, whole_cleared, whole_same}
-use Rattle.chain_modules.proofs.StandLemmas.{cleared as without_told}
+use Rattle.chain_modules.proofs.StandLemmas.{stands_for, stands_same, whole_cleared, whole_same, cleared as without_told}
 use Rattle.chain_transactions.proofs.TransactionLemmas.{starts_cleared}
-use Rattle.chain_blocks.specs.Answers.{AnswersStep, Leads, fault_of_hook, parts_stepped}
-use Rattle.chain_blocks.specs.Begun.{HasBegun, MayBegin}
-use Rattle.chain_blocks.proofs.BlockLemmas.{end_stops, has_begun, kept_begun, part_done, parts_end}
-use Rattle.chain_blocks.proofs.BlockLemmas.{opened as opened_for}
+use Rattle.chain_blocks.specs.{Answers.{AnswersStep, Leads, fault_of_hook, parts_stepped}, Begun.{HasBegun, MayBegin}}
+use Rattle.chain_blocks.proofs.BlockLemmas.{end_stops, has_begun, kept_begun, part_done, parts_end, opened as opened_for}
 
 -- ---- facts that are taken
 

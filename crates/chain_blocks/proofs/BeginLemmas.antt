@@ -1,40 +1,24 @@
 -- The beginning of a block: from what the modules' calls answer and leave to what its steps do, and what stays for the next of them.
-use Rattle.std.proofs.Common.{◌≡◌, ◌∙◌, ℕ, ◌-◌, ◌*◌, ◌^◌, ◌<◌, ◌≤◌, false, List, [], ◌∷◌, length, Result, Ok, Err, refl, sym, ap, subst}
-use Rattle.std.specs.Prelude.{⊤, IfOk, All, Contains}
-use Rattle.std.specs.BTreeMap.{is_at}
-use Rattle.std.specs.List.{AllByRecursion}
+use Rattle.std.proofs.Common.{◌≡◌, ◌∙◌, ℕ, ◌-◌, ◌*◌, ◌^◌, ◌<◌, ◌≤◌, false, List, [], ◌∷◌, length, Result, Ok, Err, refl, sym, ap, subst, IfOk, All, Contains}
+use Rattle.std.specs.{Prelude.⊤, BTreeMap.is_at, List.AllByRecursion}
 use Rattle.std.proofs.lemmas.List.Elements.{All-from_recursion, All-tail, recursion_from_All}
 use Rattle.base_decimals.specs.declared.over.Over.{Over}
 use Rattle.base_types.specs.Orders.{cons_cmp}
-use Rattle.base_roles.specs.declared.faults.HookFault.{HookFault}
-use Rattle.base_roles.specs.declared.messages.Evidence.{Evidence}
-use Rattle.base_roles.specs.declared.messages.Vote.{Vote}
-use Rattle.base_roles.specs.declared.params.Ctx.{Ctx}
-use Rattle.base_roles.specs.Answers.{Answers}
-use Rattle.base_roles.specs.Log.{Log}
-use Rattle.base_roles.specs.Flow.{◌>>=◌}
-use Rattle.base_roles.specs.World.{View, World}
+use Rattle.base_roles.specs.declared.{faults.HookFault.HookFault, messages.{Evidence.Evidence, Vote.Vote}}
+use Rattle.base_roles.specs.{declared.params.Ctx.Ctx, Answers.Answers, Log.Log, Flow.{◌>>=◌}, World.{View, World}}
 use Rattle.rule_modules.specs.Allocation.{fees_allocated}
 use Rattle.rule_modules.specs.Chain.{State, Stakes, allocation_step, beside_window, evidence_step, shared_in, vote_step, window_in, with_shared, with_window}
-use Rattle.rule_modules.specs.Distribution.{Shared, distribution_told, told_of}
-use Rattle.rule_modules.specs.StepLaws.{CountsBelow, IsPower}
-use Rattle.rule_modules.specs.Slashing.{core_slashes, plain_slash}
-use Rattle.rule_modules.specs.Sound.{IsSound, UnbondingsAreSound}
+use Rattle.rule_modules.specs.{Distribution.{Shared, distribution_told, told_of}, StepLaws.{CountsBelow, IsPower}}
+use Rattle.rule_modules.specs.{Slashing.{core_slashes, plain_slash}, Sound.{IsSound, UnbondingsAreSound}}
 use Rattle.rule_modules.specs.Window.{Window, signing_of, voted}
-use Rattle.law_soundness.proofs.Allocating.{allocation_fits}
-use Rattle.law_soundness.proofs.Burns.{total_in}
-use Rattle.law_soundness.proofs.Entries.{PairsFit, from_pairs, to_pairs}
-use Rattle.law_soundness.proofs.Lists.{weaker}
-use Rattle.law_soundness.proofs.Points.{StateLeft, from_fits, to_fits}
-use Rattle.law_soundness.proofs.Steps.{weaker_if}
+use Rattle.law_soundness.proofs.{Allocating.allocation_fits, Burns.total_in, Entries.{PairsFit, from_pairs, to_pairs}}
+use Rattle.law_soundness.proofs.{Lists.weaker, Points.{StateLeft, from_fits, to_fits}, Steps.weaker_if}
 use Rattle.law_soundness.proofs.Voting.{EvidenceLeft, VoteLeft, evidence_fits, vote_fits}
-use Rattle.mod_signing.specs.Calls.{VoteAnswers}
-use Rattle.mod_signing.specs.Stands.{KeepsSignings}
+use Rattle.mod_signing.specs.{Calls.VoteAnswers, Stands.KeepsSignings}
 use Rattle.mod_distribution.specs.Stands.{KeepsShared}
 use Rattle.chain_modules.specs.declared.modules.Modules.{Modules}
 use Rattle.chain_modules.specs.Kept.{KeptState, Keeps, ground_of, kept_of, stakes_kept}
-use Rattle.chain_blocks.specs.Answers.{Leads}
-use Rattle.chain_blocks.specs.Begun.{AreApart, AreBegun, AreCast}
+use Rattle.chain_blocks.specs.{Answers.Leads, Begun.{AreApart, AreBegun, AreCast}}
 
 -- what a step of the beginning leaves, so that the votes that are left may be counted
 pub record IsBegunNext (votes : List Vote) (p due : State) : Type 0 where

@@ -1,17 +1,11 @@
 -- The parts of a block's beginning one after another.
-use Rattle.std.proofs.Common.{◌∙◌, [], Result, Ok, Err, sym, subst, ap}
-use Rattle.std.specs.Prelude.{⊤, All}
-use Rattle.base_roles.specs.declared.faults.HookFault.{HookFault}
-use Rattle.base_roles.specs.declared.params.Ctx.{Ctx}
-use Rattle.base_roles.specs.Flow.{◌>>=◌, each}
-use Rattle.base_roles.specs.World.{View}
+use Rattle.std.proofs.Common.{◌∙◌, [], Result, Ok, Err, sym, subst, ap, All}
+use Rattle.std.specs.Prelude.{⊤}
+use Rattle.base_roles.specs.{declared.{faults.HookFault.HookFault, params.Ctx.Ctx}, Flow.{◌>>=◌, each}, World.View}
 use Rattle.base_messages.specs.declared.block.Block.{Block}
 use Rattle.rule_modules.specs.Chain.{State, allocation_step, begin_block, evidence_step, vote_step}
-use Rattle.chain_modules.specs.declared.modules.Modules.{Modules}
-use Rattle.chain_modules.specs.Kept.{KeptState, StandsWhole, kept_of}
-use Rattle.chain_modules.specs.Marks.{GoOn}
-use Rattle.chain_blocks.specs.Answers.{Leads}
-use Rattle.chain_blocks.specs.Begun.{AreBegun, HasBegun, MayAllocate, MayBeBrought, MayBegin}
+use Rattle.chain_modules.specs.{declared.modules.Modules.Modules, Kept.{KeptState, StandsWhole, kept_of}, Marks.GoOn}
+use Rattle.chain_blocks.specs.{Answers.Leads, Begun.{AreBegun, HasBegun, MayAllocate, MayBeBrought, MayBegin}}
 use Rattle.chain_blocks.proofs.LeadLemmas.{stop_leads, then_leads, weaker_leads}
 use Rattle.chain_blocks.proofs.OpenLemmas.{begun_stands, brings, casts, opens}
 

@@ -2,22 +2,15 @@
 use Rattle.std.proofs.Common.{◌≡◌, ◌∙◌, ◌^◌, ◌<◌, List, [], Result, Ok, Err, refl, sym, ap, subst}
 use Rattle.std.specs.Prelude.{⊤}
 use Rattle.base_decimals.specs.declared.over.Over.{Over}
-use Rattle.base_roles.specs.declared.facts.Fact.{Fact}
-use Rattle.base_roles.specs.declared.faults.HookFault.{HookFault}
+use Rattle.base_roles.specs.declared.{facts.Fact.Fact, faults.{HookFault.HookFault, RecordFault.RecordFault}}
+use Rattle.base_roles.specs.{Flow.{◌>>=◌, ◌>>◌, stopping}, World.View}
 use Rattle.base_roles.specs.declared.faults.HookFault.TheVariants as hook
-use Rattle.base_roles.specs.declared.faults.RecordFault.{RecordFault}
 use Rattle.base_roles.specs.declared.faults.RecordFault.TheVariants as kept
-use Rattle.base_roles.specs.Flow.{◌>>=◌, ◌>>◌, stopping}
-use Rattle.base_roles.specs.World.{View}
-use Rattle.base_messages.specs.declared.block.Block.{Block}
-use Rattle.base_messages.specs.declared.faults.BlockFault.{BlockFault}
+use Rattle.base_messages.specs.declared.{block.Block.Block, faults.BlockFault.BlockFault}
+use Rattle.base_messages.specs.declared.report.{BlockReport.BlockReport, TxReport.TxReport}
 use Rattle.base_messages.specs.declared.faults.BlockFault.TheVariants as block
-use Rattle.base_messages.specs.declared.report.BlockReport.{BlockReport}
-use Rattle.base_messages.specs.declared.report.TxReport.{TxReport}
-use Rattle.rule_modules.specs.Chain.{State, begin_block, end_block}
-use Rattle.rule_modules.specs.Laws.{next_block}
-use Rattle.rule_machine.specs.GenesisState.{without_facts}
-use Rattle.rule_machine.specs.Machine.{Step, block_checked, step, txs_applied}
+use Rattle.rule_modules.specs.{Chain.{State, begin_block, end_block}, Laws.next_block}
+use Rattle.rule_machine.specs.{GenesisState.without_facts, Machine.{Step, block_checked, step, txs_applied}}
 use Rattle.chain_modules.specs.Kept.{KeptState, Keeps, StandsFor, StandsWhole}
 use Rattle.chain_modules.proofs.StandLemmas.{cleared, stands_for, stands_same, whole_cleared}
 use Rattle.chain_blocks.specs.Answers.{AnswersStep, Applies, FaultsAs, Leads, fault_of_hook, fault_of_record, parts_stepped}

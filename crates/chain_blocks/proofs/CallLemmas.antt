@@ -1,23 +1,13 @@
 -- What the calls of a block's beginning need, from a sound state that the modules represent, and what they leave behind.
-use Rattle.std.proofs.Common.{◌≡◌, ◌∙◌, ℕ, ◌+◌, ◌*◌, ◌^◌, ◌<◌, ◌≤◌, List, length, map, Some, sym, ap, subst, arith}
-use Rattle.std.specs.Prelude.{sum, All, is_some}
+use Rattle.std.proofs.Common.{◌≡◌, ◌∙◌, ℕ, ◌+◌, ◌*◌, ◌^◌, ◌<◌, ◌≤◌, List, length, map, Some, sym, ap, subst, arith, sum, All, is_some}
 use Rattle.std.proofs.lemmas.List.Elements.{All-from_recursion, recursion_from_All}
-use Rattle.base_roles.specs.declared.entities.RedelegationEntry.{RedelegationEntry}
-use Rattle.base_roles.specs.declared.entities.UnbondingEntry.{UnbondingEntry}
-use Rattle.base_roles.specs.declared.entities.Validator.{Validator}
-use Rattle.base_roles.specs.declared.messages.Vote.{Vote}
-use Rattle.base_roles.specs.Ground.{CanBeUndone}
+use Rattle.base_roles.specs.declared.entities.{RedelegationEntry.RedelegationEntry, UnbondingEntry.UnbondingEntry}
+use Rattle.base_roles.specs.{declared.{entities.Validator.Validator, messages.Vote.Vote}, Ground.CanBeUndone}
 use Rattle.base_roles.specs.Staked.{bonded_tokens, other_tokens, validator_at, validator_by_cons}
-use Rattle.base_roles.specs.StakeChanges.{HoldsStake}
-use Rattle.base_roles.specs.World.{View}
-use Rattle.rule_modules.proofs.SoundLemmas.{IsSoundAt, to_points}
-use Rattle.rule_modules.specs.Chain.{State, Stakes, shared_in, window_in}
-use Rattle.rule_modules.specs.StepLaws.{CountsBelow, IsPower}
-use Rattle.rule_modules.specs.Owed.{entry_balances}
-use Rattle.rule_modules.specs.Purses.{Purses}
-use Rattle.rule_modules.specs.Sound.{IsSound}
-use Rattle.law_soundness.proofs.Allocating.{found_by_cons}
-use Rattle.law_soundness.proofs.Lists.{weaker}
+use Rattle.base_roles.specs.{StakeChanges.HoldsStake, World.View}
+use Rattle.rule_modules.{proofs.SoundLemmas.{IsSoundAt, to_points}, specs.Chain.{State, Stakes, shared_in, window_in}}
+use Rattle.rule_modules.specs.{StepLaws.{CountsBelow, IsPower}, Owed.entry_balances, Purses.Purses, Sound.IsSound}
+use Rattle.law_soundness.proofs.{Allocating.found_by_cons, Lists.weaker}
 use Rattle.mod_bank.specs.Booked as bank
 use Rattle.mod_staking.specs.Registered as book
 use Rattle.mod_entries.specs.Kept as entries
@@ -25,21 +15,16 @@ use Rattle.mod_unbonding.specs.Calls as unbonding
 use Rattle.mod_redelegation.specs.Calls as redelegate
 use Rattle.mod_slashing.specs.Calls.{IsSoundCore}
 use Rattle.mod_allocation.specs.Calls.{AreVotes, IsOfVoter}
-use Rattle.mod_signing.specs.Calls.{IsScene}
-use Rattle.mod_signing.specs.Kept as window
-use Rattle.mod_signing.specs.Kept.{Signed, signed_of}
-use Rattle.mod_signing.specs.Stands.{IsSound as IsSoundWindow}
+use Rattle.mod_signing.specs.{Calls.IsScene, Kept.{Signed, signed_of}, Stands.{IsSound as IsSoundWindow}}
 use Rattle.mod_signing.proofs.StandLemmas.{plain_at}
+use Rattle.mod_signing.specs.Kept as window
 use Rattle.mod_distribution.specs.Kept as distr
-use Rattle.mod_distribution.specs.Stands.{KeepsShared}
-use Rattle.mod_distribution.specs.Tells.{distribution_tells}
+use Rattle.mod_distribution.specs.{Stands.KeepsShared, Tells.distribution_tells}
 use Rattle.chain_modules.specs.declared.modules.Modules.{Modules}
-use Rattle.chain_modules.specs.Kept.{KeptState, Keeps, StakesSeen, ground_of, kept_of, stakes_kept}
-use Rattle.chain_modules.specs.Marks.{GoOn}
+use Rattle.chain_modules.specs.{Kept.{KeptState, Keeps, StakesSeen, ground_of, kept_of, stakes_kept}, Marks.GoOn}
 use Rattle.chain_modules.proofs.SceneLemmas.{all_held, core_sound, stand_shared, window_kept}
 use Rattle.chain_transactions.proofs.GoLemmas.{all_on}
-use Rattle.chain_blocks.specs.Begun.{AreCast}
-use Rattle.chain_blocks.proofs.CheckLemmas.{power_alone}
+use Rattle.chain_blocks.{specs.Begun.AreCast, proofs.CheckLemmas.power_alone}
 
 -- ---- what stays behind
 

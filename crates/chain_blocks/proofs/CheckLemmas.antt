@@ -1,19 +1,11 @@
 -- Votes and evidence that were checked so far.
-use Rattle.std.proofs.Common.{◌≡◌, ◌∙◌, ℕ, ◌+◌, ◌*◌, ◌^◌, ◌<◌, ◌≤◌, Bool, true, false, List, [], ◌∷◌, ◌++◌, drop, length, get_or, map, Option, None, Some, Result, Ok, Err, refl, sym, ap, subst, arith, mul-le-mul_right, Bor}
-use Rattle.std.specs.Prelude.{⊤, ◌||◌, is_none, is_some, nat_lt, not, OnOk, IfErr}
-use Rattle.std.proofs.lemmas.Bool.Decides.{nat_tests}
+use Rattle.std.proofs.Common.{◌≡◌, ◌∙◌, ℕ, ◌+◌, ◌*◌, ◌^◌, ◌<◌, ◌≤◌, Bool, true, false, List, [], ◌∷◌, ◌++◌, drop, length, get_or, map, Option, None, Some, Result, Ok, Err, refl, sym, ap, subst, arith, mul-le-mul_right, Bor, ◌||◌, is_none, is_some, nat_lt, not, OnOk, IfErr, option_copied}
+use Rattle.std.{specs.{Prelude.⊤, BTreeMap.is_at, List.list_any}, proofs.lemmas.Bool.Decides.nat_tests}
 use Rattle.std.proofs.lemmas.List.Sums.{sum_by-cons}
-use Rattle.std.specs.BTreeMap.{is_at}
-use Rattle.std.specs.Option.{option_copied}
-use Rattle.std.specs.List.{list_any}
 use Rattle.base_types.specs.Orders.{cons_cmp}
-use Rattle.base_roles.specs.declared.entities.Validator.{Validator}
-use Rattle.base_roles.specs.declared.messages.Evidence.{Evidence}
-use Rattle.base_roles.specs.declared.messages.Vote.{Vote}
-use Rattle.base_roles.specs.Staked.{Staked, validator_by_cons}
-use Rattle.base_roles.specs.Flow.{◌>>◌, stop_if}
-use Rattle.base_messages.specs.declared.block.Block.{Block}
-use Rattle.base_messages.specs.declared.faults.BlockFault.{BlockFault}
+use Rattle.base_roles.specs.declared.{entities.Validator.Validator, messages.{Evidence.Evidence, Vote.Vote}}
+use Rattle.base_roles.specs.{Staked.{Staked, validator_by_cons}, Flow.{◌>>◌, stop_if}}
+use Rattle.base_messages.specs.declared.{block.Block.Block, faults.BlockFault.BlockFault}
 use Rattle.base_messages.specs.declared.faults.BlockFault.TheVariants.{BadEvidence, BadPower, NoMemory, RepeatedVote, UnknownVote}
 use Rattle.rule_modules.specs.Chain.{State}
 use Rattle.rule_machine.specs.Blocks.{block_fault}

@@ -1,40 +1,25 @@
 -- The end of a block: from what the modules' calls answer and leave to what its steps do.
-use Rattle.std.proofs.Common.{◌≡◌, ◌∙◌, ℕ, List, [], ◌∷◌, true, Result, Ok, Err, sym, ap, subst}
-use Rattle.std.specs.Prelude.{⊤, not, OnOk, IfOk, IfErr, Contains, filter}
-use Rattle.std.specs.List.{AllByRecursion}
+use Rattle.std.proofs.Common.{◌≡◌, ◌∙◌, ℕ, List, [], ◌∷◌, true, Result, Ok, Err, sym, ap, subst, not, OnOk, IfOk, IfErr, Contains, filter}
+use Rattle.std.specs.{Prelude.⊤, List.AllByRecursion}
 use Rattle.base_decimals.specs.declared.over.Over.{Over}
-use Rattle.base_roles.specs.declared.entities.UnbondingEntry.{UnbondingEntry}
-use Rattle.base_roles.specs.declared.faults.HookFault.{HookFault}
-use Rattle.base_roles.specs.declared.faults.HookFault.TheVariants.{NoMemory}
-use Rattle.base_roles.specs.declared.params.Ctx.{Ctx}
-use Rattle.base_roles.specs.Answers.{AsRuled, WantsMemory, ExceedsAs}
-use Rattle.base_roles.specs.Staked.{Staked}
-use Rattle.base_roles.specs.Flow.{◌>>=◌}
+use Rattle.base_roles.specs.declared.{entities.UnbondingEntry.UnbondingEntry, faults.HookFault.HookFault}
+use Rattle.base_roles.specs.declared.{faults.HookFault.TheVariants.NoMemory, params.Ctx.Ctx}
+use Rattle.base_roles.specs.{Answers.{AsRuled, WantsMemory, ExceedsAs}, Staked.Staked, Flow.{◌>>=◌}}
 use Rattle.base_roles.specs.World.{View, World, over_mine, over_view}
-use Rattle.rule_modules.proofs.OperatorLemmas.{filtered_all}
-use Rattle.rule_modules.specs.Answers.{Leaves}
+use Rattle.rule_modules.{proofs.OperatorLemmas.filtered_all, specs.Answers.Leaves}
 use Rattle.rule_modules.specs.BondedSet.{set_updated, validators_matured}
 use Rattle.rule_modules.specs.Chain.{Hooks, State, Stakes, chain_told, maturing_step, redelegations_step, set_step, shared_in, staked_in, unbondings_step, window_in, with_staked}
-use Rattle.rule_modules.specs.Distribution.{Shared}
-use Rattle.rule_modules.specs.StepLaws.{AreWhole}
-use Rattle.rule_modules.specs.Redelegations.{redelegations_completed}
-use Rattle.rule_modules.specs.Sound.{IsSound}
-use Rattle.rule_modules.specs.Unbondings.{UnbondingLists, completed, is_mature, key_then, paid_back}
+use Rattle.rule_modules.specs.{Distribution.Shared, StepLaws.AreWhole, Redelegations.redelegations_completed}
+use Rattle.rule_modules.specs.{Sound.IsSound, Unbondings.{UnbondingLists, completed, is_mature, key_then, paid_back}}
 use Rattle.mod_staking.specs.Calls.{over}
-use Rattle.law_soundness.proofs.Bonding.{set_step_fits}
-use Rattle.law_soundness.proofs.Burns.{total_in}
-use Rattle.law_soundness.proofs.Ending.{redelegations_fit, unbondings_fit}
-use Rattle.law_soundness.proofs.Leaving.{to_whole}
-use Rattle.law_soundness.proofs.Lists.{weaker}
-use Rattle.law_soundness.proofs.Maturing.{maturing_fits}
-use Rattle.law_soundness.proofs.Points.{StateLeft, WholeEntries, from_fits, to_fits}
-use Rattle.law_soundness.proofs.Steps.{weaker_if}
+use Rattle.law_soundness.proofs.{Bonding.set_step_fits, Burns.total_in, Ending.{redelegations_fit, unbondings_fit}}
+use Rattle.law_soundness.proofs.{Leaving.to_whole, Lists.weaker, Maturing.maturing_fits}
+use Rattle.law_soundness.proofs.{Points.{StateLeft, WholeEntries, from_fits, to_fits}, Steps.weaker_if}
 use Rattle.mod_signing.specs.Stands.{KeepsSignings, Signings}
 use Rattle.mod_distribution.specs.Stands.{KeepsShared}
 use Rattle.chain_modules.specs.declared.modules.Modules.{Modules}
 use Rattle.chain_modules.specs.Kept.{KeptState, Keeps, StandsWhole, AreSteady, ground_of, hooks_hold, hooks_tell, kept_of}
-use Rattle.chain_modules.specs.Marks.{GoOn}
-use Rattle.chain_modules.proofs.CarryLemmas.{carried, carried_ok, matured_all_carried, set_carried}
+use Rattle.chain_modules.{specs.Marks.GoOn, proofs.CarryLemmas.{carried, carried_ok, matured_all_carried, set_carried}}
 use Rattle.chain_modules.proofs.HookLemmas.{held_as, leaves_on, logged_again, told_as, told_itself, unlogged}
 use Rattle.chain_transactions.proofs.EndLemmas.{IsNext, Left, from_whole}
 use Rattle.chain_blocks.specs.Answers.{Leads}

@@ -1,31 +1,22 @@
 -- A piece of evidence, over the signing records that are kept and over the plain ones for which they stand.
-use Rattle.std.proofs.Common.{◌≡◌, ◌∙◌, ℕ, ◌-◌, Bool, true, false, List, [], Option, Some, None, Result, Ok, Err, refl, sym, ap, subst}
-use Rattle.std.specs.Prelude.{⊤, ◌||◌, if◌then◌else◌, option_map, IfOk}
+use Rattle.std.proofs.Common.{◌≡◌, ◌∙◌, ℕ, ◌-◌, Bool, true, false, List, [], Option, Some, None, Result, Ok, Err, refl, sym, ap, subst, ◌||◌, if◌then◌else◌, option_map, IfOk}
+use Rattle.std.specs.Prelude.{⊤}
 use Rattle.base_decimals.specs.declared.over.Over.{Over}
-use Rattle.base_roles.specs.declared.entities.Validator.{Validator}
+use Rattle.base_roles.specs.declared.{entities.Validator.Validator, faults.HookFault.HookFault}
+use Rattle.base_roles.specs.declared.{messages.Evidence.Evidence, params.Ctx.Ctx}
+use Rattle.base_roles.specs.{Answers.{AsRuled, WantsMemory, ExceedsAs}, Staked.{is_unbonded, validator_by_cons}}
+use Rattle.base_roles.specs.{Flow.{◌>>=◌}, World.{View, World, noted, over_view}}
 use Rattle.base_roles.specs.declared.facts.Fact.TheVariants as fact
-use Rattle.base_roles.specs.declared.faults.HookFault.{HookFault}
-use Rattle.base_roles.specs.declared.messages.Evidence.{Evidence}
-use Rattle.base_roles.specs.declared.params.Ctx.{Ctx}
-use Rattle.base_roles.specs.Answers.{AsRuled, WantsMemory, ExceedsAs}
-use Rattle.base_roles.specs.Staked.{is_unbonded, validator_by_cons}
-use Rattle.base_roles.specs.Flow.{◌>>=◌}
-use Rattle.base_roles.specs.World.{View, World, noted, over_view}
 use Rattle.rule_modules.specs.Chain.{State, Stakes, beside_window, evidence_step, shared_in, window_in, with_window}
 use Rattle.rule_modules.specs.Distribution.{Shared, distribution_told}
 use Rattle.rule_modules.specs.Evidence.{Bans, banned, equivocation_handled, evidence_weighed, forever, is_too_old, jailed_if_not, window_bans}
-use Rattle.rule_modules.specs.Slashing.{Slashes, core_slashes, plain_slash}
-use Rattle.rule_modules.specs.Window.{Signing, Window, signing_of}
+use Rattle.rule_modules.specs.{Slashing.{Slashes, core_slashes, plain_slash}, Window.{Signing, Window, signing_of}}
 use Rattle.mod_evidence.specs.Calls.{Handles, lent_bans}
-use Rattle.mod_signing.specs.Kept.{Kept, Signed, signed_of}
-use Rattle.mod_signing.specs.Stands.{KeepsSignings, bans_kept, infos_of}
-use Rattle.mod_signing.proofs.InfoLemmas.{info_at}
-use Rattle.mod_signing.proofs.StandLemmas.{Both, banning_carries, looked_up}
+use Rattle.mod_signing.specs.{Kept.{Kept, Signed, signed_of}, Stands.{KeepsSignings, bans_kept, infos_of}}
+use Rattle.mod_signing.proofs.{InfoLemmas.info_at, StandLemmas.{Both, banning_carries, looked_up}}
 use Rattle.mod_distribution.specs.Stands.{KeepsShared}
-use Rattle.chain_modules.specs.declared.modules.Modules.{Modules}
-use Rattle.chain_modules.specs.Kept.{ground_of, kept_of, stakes_kept}
-use Rattle.chain_blocks.specs.Answers.{Leads}
-use Rattle.chain_blocks.specs.Begun.{AreBegun}
+use Rattle.chain_modules.specs.{declared.modules.Modules.Modules, Kept.{ground_of, kept_of, stakes_kept}}
+use Rattle.chain_blocks.specs.{Answers.Leads, Begun.AreBegun}
 use Rattle.chain_blocks.proofs.BeginLemmas.{IsBegunNext, evidence_next, goes_on}
 
 -- the records as they are lent

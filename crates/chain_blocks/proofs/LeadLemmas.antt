@@ -2,14 +2,11 @@
 use Rattle.std.proofs.Common.{Result, Ok, Err, sym, subst}
 use Rattle.std.specs.Prelude.{⊤}
 use Rattle.base_decimals.specs.declared.over.Over.{Over}
-use Rattle.base_roles.specs.declared.faults.HookFault.{HookFault}
+use Rattle.base_roles.specs.{declared.faults.HookFault.HookFault, Answers.WantsMemory, Flow.{◌>>=◌}}
 use Rattle.base_roles.specs.declared.faults.HookFault.TheVariants as fault
-use Rattle.base_roles.specs.Answers.{WantsMemory}
-use Rattle.base_roles.specs.Flow.{◌>>=◌}
 use Rattle.rule_modules.specs.Chain.{State}
 use Rattle.chain_modules.specs.Kept.{KeptState}
-use Rattle.chain_blocks.specs.Answers.{Leads}
-use Rattle.chain_blocks.proofs.BlockLemmas.{part_done}
+use Rattle.chain_blocks.{specs.Answers.Leads, proofs.BlockLemmas.part_done}
 
 -- want of memory is never against a rule
 wanting : (B : KeptState → State → Type 0) (q : Result State Over) (k : KeptState) (why : HookFault) → WantsMemory why → Leads B q k (Err why)

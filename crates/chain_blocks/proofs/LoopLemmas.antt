@@ -1,24 +1,17 @@
 -- The loops of a block's beginning: the votes that were counted so far, and the evidence that was handled so far.
-use Rattle.std.proofs.Common.{◌≡◌, ◌∙◌, ℕ, ◌+◌, ◌<◌, List, [], ◌∷◌, drop, length, get_or, Result, Ok, Err, refl, sym, ap, subst}
-use Rattle.std.specs.Prelude.{⊤, All, OnOk}
-use Rattle.std.proofs.lemmas.List.Elements.{All-head, All-tail}
+use Rattle.std.proofs.Common.{◌≡◌, ◌∙◌, ℕ, ◌+◌, ◌<◌, List, [], ◌∷◌, drop, length, get_or, Result, Ok, Err, refl, sym, ap, subst, All, OnOk}
+use Rattle.std.{specs.Prelude.⊤, proofs.lemmas.List.Elements.{All-head, All-tail}}
 use Rattle.base_decimals.specs.declared.over.Over.{Over}
-use Rattle.base_roles.specs.declared.faults.HookFault.{HookFault}
-use Rattle.base_roles.specs.declared.messages.Evidence.{Evidence}
-use Rattle.base_roles.specs.declared.messages.Vote.{Vote}
-use Rattle.base_roles.specs.declared.params.Ctx.{Ctx}
-use Rattle.base_roles.specs.Flow.{◌>>=◌, each}
+use Rattle.base_roles.specs.declared.{faults.HookFault.HookFault, messages.{Evidence.Evidence, Vote.Vote}}
+use Rattle.base_roles.specs.{declared.params.Ctx.Ctx, Flow.{◌>>=◌, each}}
 use Rattle.base_messages.specs.declared.block.Block.{Block}
 use Rattle.rule_modules.specs.Chain.{State, begin_block, evidence_step, vote_step}
 use Rattle.chain_modules.specs.declared.modules.Modules.{Modules}
-use Rattle.chain_modules.specs.Kept.{KeptState, StandsWhole, AreSet, AreSteady, kept_of}
-use Rattle.chain_modules.specs.Marks.{GoOn}
+use Rattle.chain_modules.specs.{Kept.{KeptState, StandsWhole, AreSet, AreSteady, kept_of}, Marks.GoOn}
 use Rattle.chain_modules.proofs.MarkLemmas.{stay_on, then_on}
 use Rattle.chain_transactions.proofs.MessageLemmas.{next}
-use Rattle.chain_blocks.specs.Answers.{Leads}
-use Rattle.chain_blocks.specs.Begun.{AreBegun, HasBegun, MayAccuse, MayBeBrought, MayBegin, MayVote}
-use Rattle.chain_blocks.proofs.BlockLemmas.{part_done}
-use Rattle.chain_blocks.proofs.LeadLemmas.{stop_leads}
+use Rattle.chain_blocks.specs.{Answers.Leads, Begun.{AreBegun, HasBegun, MayAccuse, MayBeBrought, MayBegin, MayVote}}
+use Rattle.chain_blocks.proofs.{BlockLemmas.part_done, LeadLemmas.stop_leads}
 
 -- ---- one step
 

@@ -1,34 +1,20 @@
 -- A block that may follow: what its checks give of the state at its beginning.
-use Rattle.std.proofs.Common.{◌≡◌, ℕ, ◌+◌, ◌-◌, ◌*◌, ◌^◌, ◌<◌, ◌≤◌, Bool, true, false, List, [], ◌∷◌, ◌++◌, length, map, append_assoc, Result, Ok, refl, sym, ap, subst, arith, mul-le-mul_right}
-use Rattle.std.specs.Prelude.{⊤, ◌||◌, ◌==◌, nat_lt, nat_le, All, Some, is_none}
-use Rattle.std.proofs.lemmas.Bool.Decides.{nat_tests}
-use Rattle.std.proofs.lemmas.List.Sums.{sum_by-cons}
-use Rattle.std.specs.BTreeMap.{is_at}
-use Rattle.std.specs.List.{AllByRecursion, list_any}
-use Rattle.std.proofs.lemmas.List.Elements.{All-from_recursion}
+use Rattle.std.proofs.Common.{◌≡◌, ℕ, ◌+◌, ◌-◌, ◌*◌, ◌^◌, ◌<◌, ◌≤◌, Bool, true, false, List, [], ◌∷◌, ◌++◌, length, map, append_assoc, Result, Ok, refl, sym, ap, subst, arith, mul-le-mul_right, ◌||◌, ◌==◌, nat_lt, nat_le, All, Some, is_none}
+use Rattle.std.specs.{Prelude.⊤, BTreeMap.is_at, List.{AllByRecursion, list_any}}
+use Rattle.std.proofs.lemmas.{Bool.Decides.nat_tests, List.{Sums.sum_by-cons, Elements.All-from_recursion}}
 use Rattle.base_types.specs.Orders.{cons_cmp}
-use Rattle.base_roles.specs.declared.messages.Evidence.{Evidence}
-use Rattle.base_roles.specs.declared.messages.Vote.{Vote}
-use Rattle.base_roles.specs.declared.params.Ctx.{Ctx}
-use Rattle.base_roles.specs.Staked.{Staked, validator_by_cons}
-use Rattle.base_roles.specs.Flow.{◌>>◌, stop_if}
+use Rattle.base_roles.specs.declared.{messages.{Evidence.Evidence, Vote.Vote}, params.Ctx.Ctx}
+use Rattle.base_roles.specs.{Staked.{Staked, validator_by_cons}, Flow.{◌>>◌, stop_if}}
 use Rattle.base_messages.specs.declared.block.Block.{Block}
 use Rattle.base_messages.specs.declared.faults.BlockFault.TheVariants.{BadEvidence, BadPower, RepeatedVote, UnknownVote}
-use Rattle.rule_modules.specs.Chain.{State, window_in}
-use Rattle.rule_modules.specs.Laws.{next_block}
-use Rattle.rule_modules.specs.StepLaws.{CountsBelow, IsPower}
-use Rattle.rule_modules.specs.Sound.{IsSound, UnbondingsAreSound}
-use Rattle.rule_modules.specs.Window.{Signing, signing_of}
-use Rattle.rule_machine.specs.Blocks.{block_fault}
-use Rattle.rule_machine.specs.GenesisState.{without_facts}
+use Rattle.rule_modules.specs.{Chain.{State, window_in}, Laws.next_block, StepLaws.{CountsBelow, IsPower}}
+use Rattle.rule_modules.specs.{Sound.{IsSound, UnbondingsAreSound}, Window.{Signing, signing_of}}
+use Rattle.rule_machine.specs.{Blocks.block_fault, GenesisState.without_facts}
 use Rattle.rule_machine.specs.Machine.{evidence_checked, is_bad_evidence, power_of_votes, stop_at, vote_checked, votes_checked}
 use Rattle.rule_machine.proofs.DueLemmas.{IsDue, is_due}
-use Rattle.law_soundness.proofs.Entries.{to_pairs}
-use Rattle.law_soundness.proofs.Following.{next_block_keeps_soundness}
-use Rattle.law_soundness.proofs.Running.{AreDistinct, first_ok, next_ok, older_whole, votes_are}
-use Rattle.law_soundness.proofs.Voting.{own_record}
-use Rattle.chain_modules.specs.Kept.{KeptState, StandsWhole}
-use Rattle.chain_modules.proofs.StandLemmas.{sound_cleared}
+use Rattle.law_soundness.proofs.{Entries.to_pairs, Following.next_block_keeps_soundness}
+use Rattle.law_soundness.proofs.{Running.{AreDistinct, first_ok, next_ok, older_whole, votes_are}, Voting.own_record}
+use Rattle.chain_modules.{specs.Kept.{KeptState, StandsWhole}, proofs.StandLemmas.sound_cleared}
 use Rattle.chain_transactions.proofs.EndLemmas.{from_whole}
 use Rattle.chain_blocks.specs.Begun.{AreApart, AreBegun, AreCast, HasBegun, MayBeBrought}
 

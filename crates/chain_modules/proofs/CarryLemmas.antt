@@ -1,24 +1,20 @@
 -- The rules of staking do not look at the values that hooks hold, nor at the log: over other held values, of which the same is told, and
 -- behind an earlier log they give the same.
-use Rattle.std.proofs.Common.{◌≡◌, ◌∙◌, ℕ, ◌+◌, ◌==◌, Bool, true, false, List, [], ◌∷◌, ◌++◌, length, append_assoc, Result, Ok, Err, refl, ap}
-use Rattle.std.specs.Prelude.{◌-◌, ◌&&◌, ◌||◌, if◌then◌else◌, nat_le, nat_lt, is_some, find, unwrap_or}
+use Rattle.std.proofs.Common.{◌≡◌, ◌∙◌, ℕ, ◌+◌, ◌==◌, Bool, true, false, List, [], ◌∷◌, ◌++◌, length, append_assoc, Result, Ok, Err, refl, ap, ◌-◌, ◌&&◌, ◌||◌, if◌then◌else◌, nat_le, nat_lt, is_some, find, unwrap_or}
 use Rattle.std.specs.Map.{values_of}
 use Rattle.base_types.specs.declared.account.Account.TheVariants as account
 use Rattle.base_types.specs.declared.account.Module.TheVariants as holder
 use Rattle.base_types.specs.declared.status.BondStatus.TheVariants.{Bonded, Unbonded}
-use Rattle.base_coins.specs.declared.coin.Coin.{Coin}
-use Rattle.base_coins.specs.Coins.{Money}
+use Rattle.base_coins.specs.{declared.coin.Coin.Coin, Coins.Money}
 use Rattle.base_shares.specs.Shares.{amount_out, has_invalid_rate}
-use Rattle.base_roles.specs.declared.entities.Validator.{Validator}
-use Rattle.base_roles.specs.declared.messages.CreateValidator.{CreateValidator}
+use Rattle.base_roles.specs.declared.{entities.Validator.Validator, messages.CreateValidator.CreateValidator}
 use Rattle.base_roles.specs.declared.params.Params.{Params}
 use Rattle.base_roles.specs.declared.refusal.Refusal.TheVariants.{CancelTooMuch, CommissionBelowMinimum, CommissionRange, ConsKeyExists, Jailed, MinSelfNotPositive, NoEntry, NoValidator, NonPositive, Overflow, RateInvalid, RedelegationsFull, SelfBelowMinimum, SelfRedelegation, TinyRedelegation, Transitive, UnbondingsFull, ValidatorExists, WrongDenom}
-use Rattle.base_roles.specs.Log.{Log, LogEntry}
-use Rattle.base_roles.specs.Log as log
-use Rattle.base_roles.specs.Orders.{same_addr}
+use Rattle.base_roles.specs.{Log.{Log, LogEntry}, Orders.same_addr}
 use Rattle.base_roles.specs.Staked.{Staked, delegation, is_bonded, is_unbonded, put_validator, validator_at, validator_by_cons}
 use Rattle.base_roles.specs.Flow.{◌>>=◌, ◌>>◌, each, or_stop, stop_if, stopping}
 use Rattle.base_roles.specs.World.{View, Hook, modified, modifying, Told, gives, exceeds, World, hooked, call, over_mine, over_view, sent, logged}
+use Rattle.base_roles.specs.Log as log
 use Rattle.base_roles.specs.World as hook
 use Rattle.rule_modules.specs.Amounts.{bond_coins}
 use Rattle.rule_modules.specs.BondedSet.{joined_set, left_set, joining_of, leaving_of, matured, set_updated, validators_matured}

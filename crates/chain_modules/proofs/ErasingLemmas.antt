@@ -3,33 +3,20 @@ use Rattle.std.proofs.Common.{◌≡◌, ◌∙◌, ℕ, ◌+◌, List, [], ◌�
 use Rattle.std.specs.Prelude.{⊤}
 use Rattle.base_coins.specs.declared.coin.Coin.{Coin}
 use Rattle.base_decimals.specs.declared.over.Over.{Over}
-use Rattle.base_messages.specs.declared.block.Block.{Block}
-use Rattle.base_messages.specs.declared.block.Tx.{Tx}
-use Rattle.base_messages.specs.declared.faults.BlockFault.{BlockFault}
-use Rattle.base_messages.specs.declared.faults.BlockFault.TheVariants.{RatioLimit}
-use Rattle.base_messages.specs.declared.message.Msg.{Msg}
+use Rattle.base_messages.specs.declared.{block.{Block.Block, Tx.Tx}, faults.BlockFault.BlockFault}
+use Rattle.base_messages.specs.declared.{faults.BlockFault.TheVariants.RatioLimit, message.Msg.Msg}
 use Rattle.base_messages.specs.declared.message.Msg.TheVariants as msg
-use Rattle.base_roles.specs.declared.messages.CreateValidator.{CreateValidator}
-use Rattle.base_roles.specs.declared.messages.Evidence.{Evidence}
-use Rattle.base_roles.specs.declared.messages.Vote.{Vote}
-use Rattle.base_roles.specs.declared.refusal.Refusal.{Refusal}
-use Rattle.base_roles.specs.Flow.{◌>>=◌, ◌>>◌, each, stopping}
-use Rattle.base_roles.specs.Log.{Log}
-use Rattle.base_roles.specs.Pair.{and_then, given_with}
-use Rattle.base_roles.specs.Staked.{delegation, validator_at}
+use Rattle.base_roles.specs.declared.messages.{CreateValidator.CreateValidator, Evidence.Evidence, Vote.Vote}
+use Rattle.base_roles.specs.{declared.refusal.Refusal.Refusal, Flow.{◌>>=◌, ◌>>◌, each, stopping}, Log.Log}
+use Rattle.base_roles.specs.{Pair.{and_then, given_with}, Staked.{delegation, validator_at}}
 use Rattle.base_roles.specs.World.{View, Hook, Told, gives, exceeds}
 use Rattle.rule_modules.specs.BondedSet.{set_updated, validators_matured}
 use Rattle.rule_modules.specs.Chain.{Hooks, State, allocation_step, begin_block, chain_told, end_block, evidence_step, maturing_step, redelegations_step, set_step, staked_in, unbondings_step, vote_step}
-use Rattle.rule_modules.specs.Delegating.{delegated_by}
-use Rattle.rule_modules.specs.Distribution.{Shared, distribution_told}
+use Rattle.rule_modules.specs.{Delegating.delegated_by, Distribution.{Shared, distribution_told}}
 use Rattle.rule_modules.specs.Effects.{begin_redelegate, cancel_unbonding, create_validator, delegate, effects_of, fee_paid, after_fee, stands_or_fee, transaction_applied, undelegate, withdraw_reward}
-use Rattle.rule_modules.specs.Evidence.{equivocation_handled, window_bans}
-use Rattle.rule_modules.specs.Laws.{next_block}
-use Rattle.rule_modules.specs.Redelegations.{redelegated}
-use Rattle.rule_modules.specs.Slashing.{core_slashes, plain_slash}
-use Rattle.rule_modules.specs.Unbondings.{cancelled, undelegated}
-use Rattle.rule_modules.specs.Validators.{created}
-use Rattle.rule_modules.specs.Window.{Window, voted, window_told}
+use Rattle.rule_modules.specs.{Evidence.{equivocation_handled, window_bans}, Laws.next_block, Redelegations.redelegated}
+use Rattle.rule_modules.specs.{Slashing.{core_slashes, plain_slash}, Unbondings.{cancelled, undelegated}}
+use Rattle.rule_modules.specs.{Validators.created, Window.{Window, voted, window_told}}
 use Rattle.rule_machine.specs.GenesisState.{without_facts}
 use Rattle.rule_machine.specs.Listening.{Hearing, Overheard, beginning_heard, beside_window, block_heard, cancellation_heard, creation_heard, delegation_heard, effect_heard, ending_heard, evidence_heard, heard_in, hearing, maturing_heard, messages_heard, overheard_told, paid_heard, part_heard, redelegation_heard, restart_heard, reward_heard, set_heard, shared_told, silently, stands_heard, tx_heard, txs_heard, undelegation_heard, unheard, vote_heard}
 use Rattle.rule_machine.specs.Machine.{Step, TxSteps, block_checked, step, tx_applied, txs_applied}

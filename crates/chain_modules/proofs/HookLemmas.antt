@@ -2,22 +2,15 @@
 -- number, which stays.
 use Rattle.std.proofs.Common.{◌≡◌, ℕ, [], ◌∷◌, ◌++◌, Result, Ok, Err, refl, sym, ap}
 use Rattle.std.specs.Prelude.{⊤}
-use Rattle.base_roles.specs.declared.faults.HookFault.{HookFault}
-use Rattle.base_roles.specs.declared.faults.MessageFault.{MessageFault}
-use Rattle.base_roles.specs.declared.refusal.Refusal.{Refusal}
-use Rattle.base_decimals.specs.declared.over.Over.{Over}
-use Rattle.base_roles.specs.Answers.{AnswersAs, AsRuled, StopsForMemory, RefusesAs, WantsMemory, ExceedsAs}
-use Rattle.base_roles.specs.Log.{Log}
-use Rattle.base_roles.specs.Pair.{and_then, given_with}
-use Rattle.base_roles.specs.Staked.{Staked}
+use Rattle.base_roles.specs.declared.{faults.{HookFault.HookFault, MessageFault.MessageFault}, refusal.Refusal.Refusal}
+use Rattle.base_roles.specs.{Answers.{AnswersAs, AsRuled, StopsForMemory, RefusesAs, WantsMemory, ExceedsAs}, Log.Log}
+use Rattle.base_roles.specs.{Pair.{and_then, given_with}, Staked.Staked}
 use Rattle.base_roles.specs.World.{View, Hook, Told, gives, exceeds, World}
-use Rattle.rule_modules.specs.Answers.{Leaves}
-use Rattle.rule_modules.specs.Chain.{Hooks, State, chain_told, staked_in}
-use Rattle.rule_modules.specs.Distribution.{Shared, distribution_told}
-use Rattle.rule_modules.specs.Window.{Window, window_told}
+use Rattle.base_decimals.specs.declared.over.Over.{Over}
+use Rattle.rule_modules.specs.{Answers.Leaves, Chain.{Hooks, State, chain_told, staked_in}}
+use Rattle.rule_modules.specs.{Distribution.{Shared, distribution_told}, Window.{Window, window_told}}
 use Rattle.mod_signing.specs.Stands.{Signings, same_window}
-use Rattle.chain_modules.specs.Kept.{hooks_tell}
-use Rattle.chain_modules.proofs.CarryLemmas.{carried, carried_by, carried_ok, told_carried}
+use Rattle.chain_modules.{specs.Kept.hooks_tell, proofs.CarryLemmas.{carried, carried_by, carried_ok, told_carried}}
 
 -- the machine's hooks, as the modules hold them
 abbrev pub held_as : ℕ → Hooks → Shared × Signings

@@ -1,19 +1,10 @@
 -- The items of all modules: each is of the kind of its module, and how all of them change.
-use Rattle.std.proofs.Common.{◌≡◌, ◌∙◌, ℕ, Bool, true, false, List, [], ◌∷◌, ◌++◌, refl, sym, ap, subst, inl, inr}
-use Rattle.std.specs.Prelude.{◌==◌, ◌&&◌, ◌⊎◌, if◌then◌else◌}
-use Rattle.std.specs.Str.{bytes_eq}
-use Rattle.base_roles.specs.declared.items.Item.{Item}
+use Rattle.std.proofs.Common.{◌≡◌, ◌∙◌, ℕ, Bool, true, false, List, [], ◌∷◌, ◌++◌, refl, sym, ap, subst, inl, inr, ◌==◌, ◌&&◌, ◌⊎◌, if◌then◌else◌, bytes_eq}
+use Rattle.base_roles.specs.{declared.{items.Item.Item, params.{Ctx.Ctx, Params.Params}}, Holdings.Holdings}
+use Rattle.base_roles.specs.{Items.{AreChanges, key_of}, Staked.Staked}
 use Rattle.base_roles.specs.declared.items.Item.TheVariants as item
-use Rattle.base_roles.specs.declared.params.Ctx.{Ctx}
-use Rattle.base_roles.specs.declared.params.Params.{Params}
-use Rattle.base_roles.specs.Holdings.{Holdings}
-use Rattle.base_roles.specs.Items.{AreChanges, key_of}
-use Rattle.base_roles.specs.Staked.{Staked}
-use Rattle.rule_modules.specs.Chain.{Stakes}
-use Rattle.rule_modules.specs.Redelegations.{RedelegationLists}
-use Rattle.rule_modules.specs.Unbondings.{UnbondingLists}
-use Rattle.base_records.specs.Kinds.{AreApart, AreOf, IsByKey, either}
-use Rattle.base_records.specs.Items.{rows_of}
+use Rattle.rule_modules.specs.{Chain.Stakes, Redelegations.RedelegationLists, Unbondings.UnbondingLists}
+use Rattle.base_records.specs.{Kinds.{AreApart, AreOf, IsByKey, either}, Items.rows_of}
 use Rattle.base_records.proofs.KindLemmas.{all-changes, by-either, changes-both, of-both}
 use Rattle.base_records.proofs.MemberLemmas.{Member, contained, member, member-cases}
 use Rattle.base_records.proofs.SameLemmas.{both, bytes, bytes_itself, number, number_itself}
@@ -27,15 +18,13 @@ use Rattle.mod_redelegation.specs.Items as redelegate
 use Rattle.mod_redelegation.specs.Items.{is_redelegation}
 use Rattle.mod_allocation.specs.Items.{is_shared}
 use Rattle.mod_periods.specs.Items.{is_record}
-use Rattle.mod_signing.specs.Kept.{Kept}
-use Rattle.mod_signing.specs.Items as window
-use Rattle.mod_signing.specs.Items.{is_signing}
+use Rattle.mod_signing.specs.{Kept.Kept, Items.is_signing}
 use Rattle.mod_signing.proofs.ItemLemmas.{flag, flag_itself, signings_by_key, signings_of_kind}
-use Rattle.mod_distribution.specs.Kept.{KeptShared}
-use Rattle.mod_distribution.specs.Items as distr
-use Rattle.mod_distribution.specs.Items.{is_distributed, is_payee}
+use Rattle.mod_signing.specs.Items as window
+use Rattle.mod_distribution.specs.{Kept.KeptShared, Items.{is_distributed, is_payee}}
 use Rattle.mod_distribution.proofs.ItemLemmas.{of_rest, record_items, shared_items}
 use Rattle.mod_distribution.proofs.KindLemmas.{payee-by-key, record-by-key, shared-by-key}
+use Rattle.mod_distribution.specs.Items as distr
 use Rattle.chain_modules.specs.Kept.{KeptState}
 use Rattle.chain_modules.specs.Items.{ctx_changes, ctx_items, items_of, items_of_hooks, items_of_stakes, same_params}
 

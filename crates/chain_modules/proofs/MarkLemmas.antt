@@ -1,11 +1,8 @@
 -- Marks that are gone back to, and marks that are closed.
-use Rattle.std.proofs.Common.{◌≡◌, ◌∙◌, List, [], ◌∷◌, ◌++◌, append_assoc, refl, sym, ap}
-use Rattle.std.specs.Prelude.{◌≢◌}
+use Rattle.std.proofs.Common.{◌≡◌, ◌∙◌, List, [], ◌∷◌, ◌++◌, append_assoc, refl, sym, ap, ◌≢◌}
 use Rattle.std.proofs.lemmas.List.{same_from_push}
-use Rattle.base_roles.specs.declared.facts.Fact.{Fact}
-use Rattle.base_roles.proofs.MomentLemmas.{same_moment, same_moment_twice}
-use Rattle.chain_modules.specs.declared.modules.Modules.{Modules}
-use Rattle.chain_modules.specs.Kept.{parts_of}
+use Rattle.base_roles.{specs.declared.facts.Fact.Fact, proofs.MomentLemmas.{same_moment, same_moment_twice}}
+use Rattle.chain_modules.specs.{declared.modules.Modules.Modules, Kept.parts_of}
 use Rattle.chain_modules.specs.Marks.{Marks, AreClosed, AreOpen, Follow, GoOn, MessagesGoOn, behind_of, marks_of, opened}
 
 -- modules that keep what others kept, with the same open marks

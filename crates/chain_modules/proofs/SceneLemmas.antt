@@ -1,31 +1,21 @@
 -- What modules need that stand for a sound state.
-use Rattle.std.proofs.Common.{◌≡◌, ◌∙◌, ℕ, ◌+◌, ◌≤◌, true, max, Option, Some, None, refl, ap, subst, arith}
-use Rattle.std.specs.Prelude.{if◌then◌else◌, is_some}
-use Rattle.std.specs.Ordering.{is_eq}
+use Rattle.std.proofs.Common.{◌≡◌, ◌∙◌, ℕ, ◌+◌, ◌≤◌, true, max, Option, Some, None, refl, ap, subst, arith, if◌then◌else◌, is_some, is_eq}
 use Rattle.base_types.specs.declared.account.Account.TheVariants as account
 use Rattle.base_types.specs.declared.account.Module.TheVariants as holder
 use Rattle.base_coins.proofs.Amounts.{itself}
-use Rattle.base_roles.specs.Ground.{IsInOrder}
-use Rattle.base_roles.specs.Holdings.{balance_of}
-use Rattle.base_roles.specs.Hooks.{Stand, Stands}
+use Rattle.base_roles.specs.{Ground.IsInOrder, Holdings.balance_of, Hooks.{Stand, Stands}}
 use Rattle.base_roles.specs.Staked.{Staked, bonded_tokens, delegation, other_tokens, lists_of, validator_at}
-use Rattle.base_roles.specs.StakeChanges.{of_bond, HoldsStake}
-use Rattle.base_roles.specs.World.{View}
-use Rattle.rule_modules.proofs.SoundLemmas.{to_points}
-use Rattle.rule_modules.specs.Chain.{State, shared_in}
-use Rattle.rule_modules.specs.StepLaws.{AreWhole}
-use Rattle.rule_modules.specs.Owed.{entry_balances}
-use Rattle.rule_modules.specs.Sound.{IsSound}
-use Rattle.mod_staking.specs.Calls.{IsSoundStake}
-use Rattle.mod_staking.specs.Scenes.{IsHooked, IsScene}
+use Rattle.base_roles.specs.{StakeChanges.{of_bond, HoldsStake}, World.View}
+use Rattle.rule_modules.{proofs.SoundLemmas.to_points, specs.{Chain.{State, shared_in}, StepLaws.AreWhole}}
+use Rattle.rule_modules.specs.{Owed.entry_balances, Sound.IsSound}
+use Rattle.mod_staking.specs.{Calls.IsSoundStake, Scenes.{IsHooked, IsScene}}
 use Rattle.mod_unbonding.specs.Calls as unbonding
 use Rattle.mod_unbonding.specs.Scenes.{IsUnbondingScene}
 use Rattle.mod_redelegation.specs.Calls as redelegate
 use Rattle.mod_redelegation.specs.Scenes.{IsEntryScene}
 use Rattle.mod_slashing.specs.Calls.{IsSoundCore}
 use Rattle.mod_signing.specs.Stands.{IsKept}
-use Rattle.mod_distribution.specs.Heights.{last_below, sound_at_last}
-use Rattle.mod_distribution.specs.Stands.{KeepsShared}
+use Rattle.mod_distribution.specs.{Heights.{last_below, sound_at_last}, Stands.KeepsShared}
 use Rattle.mod_distribution.specs.Tells.{StartAtOperators, distribution_tells, last_height}
 use Rattle.law_soundness.proofs.Points.{holds_coin}
 use Rattle.chain_modules.specs.declared.modules.Modules.{Modules}

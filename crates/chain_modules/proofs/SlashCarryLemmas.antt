@@ -1,25 +1,19 @@
 -- The rules of slashing, of votes and of evidence do not look at the values that hooks hold, nor at the log: over other held values, of
 -- which the same is told, and behind an earlier log they give the same.
-use Rattle.std.proofs.Common.{◌≡◌, ℕ, ◌+◌, ◌==◌, Bool, true, false, List, [], ◌∷◌, ◌++◌, Option, Some, None, Result, Ok, refl, ap}
-use Rattle.std.specs.Prelude.{◌-◌, ◌||◌, if◌then◌else◌, min, not}
-use Rattle.base_roles.specs.declared.entities.RedelegationEntry.{RedelegationEntry}
-use Rattle.base_roles.specs.declared.entities.Validator.{Validator}
-use Rattle.base_roles.specs.declared.facts.Fact.TheVariants as fact
-use Rattle.base_roles.specs.declared.messages.Evidence.{Evidence}
-use Rattle.base_roles.specs.declared.messages.Vote.{Vote}
-use Rattle.base_roles.specs.declared.params.Ctx.{Ctx}
-use Rattle.base_roles.specs.Log.{Log}
-use Rattle.base_roles.specs.Log as log
+use Rattle.std.proofs.Common.{◌≡◌, ℕ, ◌+◌, ◌==◌, Bool, true, false, List, [], ◌∷◌, ◌++◌, Option, Some, None, Result, Ok, refl, ap, ◌-◌, ◌||◌, if◌then◌else◌, min, not}
+use Rattle.base_roles.specs.declared.entities.{RedelegationEntry.RedelegationEntry, Validator.Validator}
+use Rattle.base_roles.specs.{declared.{messages.{Evidence.Evidence, Vote.Vote}, params.Ctx.Ctx}, Log.Log}
 use Rattle.base_roles.specs.Orders.{same_addr}
 use Rattle.base_roles.specs.Staked.{Staked, delegation, is_unbonded, validator_at, validator_by_cons}
 use Rattle.base_roles.specs.World.{View, Hook, slashing, Told, World, call, noted, over_view}
+use Rattle.base_roles.specs.declared.facts.Fact.TheVariants as fact
+use Rattle.base_roles.specs.Log as log
 use Rattle.rule_modules.specs.Chain.{Stakes}
 use Rattle.rule_modules.specs.EntrySlashes.{burned_at_target, entry_hit, is_hit, part_left, part_of, plain_following, redelegations_slashed, shares_hit, sources_slashed, targets_slashed, unbondings_slashed}
 use Rattle.rule_modules.specs.Evidence.{banned, equivocation_handled, evidence_weighed, forever, is_too_old, jailed_if_not, window_bans}
 use Rattle.rule_modules.specs.Redelegations.{RedelegationLists}
 use Rattle.rule_modules.specs.Slashing.{core_slashes, jail_lent, plain_slash, rest_slashed, slash_amount, slash_fraction, slash_told, slashed, slashed_at, staked_unbonds, validator_slashed}
-use Rattle.rule_modules.specs.Unbonding.{shares_unbonded, unbonded_of}
-use Rattle.rule_modules.specs.Unbondings.{UnbondingLists}
+use Rattle.rule_modules.specs.{Unbonding.{shares_unbonded, unbonded_of}, Unbondings.UnbondingLists}
 use Rattle.rule_modules.specs.Window.{Signing, Window, is_downtime, signing_of, vote_counted, voted}
 use Rattle.chain_modules.proofs.CarryLemmas.{call_carried, carried, carried_by, carried_ok, logged_carried, same_then, then_carried, told_carried, unbonded_carried}
 

@@ -1,8 +1,7 @@
 -- The states for which what is kept stands.
 use Rattle.std.proofs.Common.{◌≡◌, ◌∙◌, [], sym, ap, subst}
 use Rattle.base_roles.specs.World.{View}
-use Rattle.rule_modules.specs.Chain.{State}
-use Rattle.rule_modules.specs.Sound.{IsSound}
+use Rattle.rule_modules.specs.{Chain.State, Sound.IsSound}
 use Rattle.rule_machine.specs.GenesisState.{without_facts}
 use Rattle.chain_modules.specs.Kept.{KeptState, Keeps, StandsFor, StandsWhole}
 

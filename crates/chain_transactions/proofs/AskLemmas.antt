@@ -1,21 +1,13 @@
 -- A reward that is asked for: the hook before shares change may be called.
-use Rattle.std.proofs.Common.{◌≡◌, ◌∙◌, ℕ, ◌^◌, ◌<◌, ◌≤◌, List, Option, Some, None, Result, Ok, ap}
-use Rattle.std.specs.Prelude.{is_some}
-use Rattle.base_roles.specs.declared.entities.Validator.{Validator}
-use Rattle.base_roles.specs.declared.refusal.Refusal.{Refusal}
-use Rattle.base_roles.specs.declared.refusal.Refusal.TheVariants.{NoValidator, NoDelegation}
-use Rattle.base_roles.specs.Hooks.{MayCall}
-use Rattle.base_roles.specs.Staked.{Staked, delegation, lists_of, validator_at}
-use Rattle.base_roles.specs.Flow.{◌>>=◌, or_stop}
+use Rattle.std.proofs.Common.{◌≡◌, ◌∙◌, ℕ, ◌^◌, ◌<◌, ◌≤◌, List, Option, Some, None, Result, Ok, ap, is_some}
+use Rattle.base_roles.specs.declared.{entities.Validator.Validator, refusal.Refusal.Refusal}
+use Rattle.base_roles.specs.{declared.refusal.Refusal.TheVariants.{NoValidator, NoDelegation}, Hooks.MayCall}
+use Rattle.base_roles.specs.{Staked.{Staked, delegation, lists_of, validator_at}, Flow.{◌>>=◌, or_stop}}
 use Rattle.base_roles.specs.World.{modifying}
-use Rattle.rule_modules.proofs.SoundLemmas.{to_points}
-use Rattle.rule_modules.specs.Chain.{State}
-use Rattle.rule_modules.specs.Sound.{IsSound}
+use Rattle.rule_modules.{proofs.SoundLemmas.to_points, specs.{Chain.State, Sound.IsSound}}
 use Rattle.law_soundness.proofs.Within.{shares_some, shares_within}
-use Rattle.mod_distribution.specs.Stands.{KeepsShared}
-use Rattle.mod_distribution.specs.Tells.{distribution_tells}
-use Rattle.chain_modules.specs.declared.modules.Modules.{Modules}
-use Rattle.chain_modules.specs.Kept.{Keeps, ground_of, kept_of}
+use Rattle.mod_distribution.specs.{Stands.KeepsShared, Tells.distribution_tells}
+use Rattle.chain_modules.specs.{declared.modules.Modules.Modules, Kept.{Keeps, ground_of, kept_of}}
 use Rattle.chain_modules.proofs.SceneLemmas.{hooked_kept, stand_shared}
 use Rattle.chain_transactions.specs.Answers.{delegation_asked}
 

@@ -1,43 +1,30 @@
 -- What each message's call tells, all together: how the message ends, that modules are steady behind it, and that it can be taken back.
-use Rattle.std.proofs.Common.{◌≡◌, ℕ, List, Result, Ok, ap}
-use Rattle.std.specs.Prelude.{⊤, OnOk}
+use Rattle.std.proofs.Common.{◌≡◌, ℕ, List, Result, Ok, ap, OnOk}
+use Rattle.std.specs.Prelude.{⊤}
 use Rattle.base_types.specs.declared.account.Account.{Account}
-use Rattle.base_coins.specs.declared.coin.Coin.{Coin}
-use Rattle.base_coins.specs.Coins.{Money, IsMoney}
-use Rattle.base_roles.specs.declared.entities.Validator.{Validator}
-use Rattle.base_roles.specs.declared.faults.MessageFault.{MessageFault}
-use Rattle.base_roles.specs.declared.messages.CreateValidator.{CreateValidator}
-use Rattle.base_roles.specs.declared.messages.EditValidator.{EditValidator}
-use Rattle.base_roles.specs.declared.refusal.Refusal.TheVariants.{Overflow}
-use Rattle.base_roles.specs.Answers.{AnswersAs}
-use Rattle.base_roles.specs.Ground.{CanBeUndone}
+use Rattle.base_coins.specs.{declared.coin.Coin.Coin, Coins.{Money, IsMoney}}
+use Rattle.base_roles.specs.declared.{entities.Validator.Validator, faults.MessageFault.MessageFault}
+use Rattle.base_roles.specs.declared.messages.{CreateValidator.CreateValidator, EditValidator.EditValidator}
+use Rattle.base_roles.specs.{declared.refusal.Refusal.TheVariants.Overflow, Answers.AnswersAs, Ground.CanBeUndone}
 use Rattle.base_roles.specs.Flow.{stopping}
-use Rattle.rule_modules.specs.Answers.{AnswersHeld}
-use Rattle.rule_modules.specs.Chain.{State, shared_in, window_in}
-use Rattle.rule_modules.specs.Delegating.{delegated_by}
+use Rattle.rule_modules.specs.{Answers.AnswersHeld, Chain.{State, shared_in, window_in}, Delegating.delegated_by}
 use Rattle.rule_modules.specs.Distribution.{Shared, reward_renewed}
 use Rattle.rule_modules.specs.Effects.{Effect, create_validator, delegate, undelegate, begin_redelegate, cancel_unbonding, edit_validator, unjail, send, withdraw_commission, withdraw_reward, set_withdraw_address, fund_community_pool, community_pool_spend}
-use Rattle.rule_modules.specs.Redelegations.{redelegated}
-use Rattle.rule_modules.specs.Unbondings.{cancelled, undelegated}
-use Rattle.rule_modules.specs.Validators.{created}
+use Rattle.rule_modules.specs.{Redelegations.redelegated, Unbondings.{cancelled, undelegated}, Validators.created}
 use Rattle.rule_modules.specs.Window.{Window, unjailed}
 use Rattle.rule_modules.specs.Withdrawals.{commission_withdrawn, payee_set, pool_funded, pool_spent}
 use Rattle.mod_bank.specs.Booked as bank
-use Rattle.mod_bank.specs.Booked.{Booked}
-use Rattle.mod_bank.specs.Sending.{Transfers}
-use Rattle.mod_staking.specs.Calls.{edited_over, over}
+use Rattle.mod_bank.specs.{Booked.Booked, Sending.Transfers}
+use Rattle.mod_staking.specs.{Calls.{edited_over, over}, Scenes.{GoesOn, RegisterGoesOn}}
 use Rattle.mod_staking.specs.Registered as book
-use Rattle.mod_staking.specs.Scenes.{GoesOn, RegisterGoesOn}
 use Rattle.mod_entries.specs.Answers.{AnswersBoth, EntriesGoOn}
 use Rattle.mod_entries.specs.Kept as entries
 use Rattle.mod_signing.specs.Stands.{Signings, KeepsSignings}
-use Rattle.mod_distribution.specs.Calls.{CarriesOutOrRefuses, PoolsOrRefuses, SetsOrRefuses}
-use Rattle.mod_distribution.specs.Kept.{SharedGoesOn}
+use Rattle.mod_distribution.specs.{Calls.{CarriesOutOrRefuses, PoolsOrRefuses, SetsOrRefuses}, Kept.SharedGoesOn}
 use Rattle.mod_distribution.specs.Stands.{KeepsShared}
 use Rattle.chain_modules.specs.declared.modules.Modules.{Modules}
 use Rattle.chain_modules.specs.Kept.{StandsWhole, AreSteady, ground_of, hooks_hold, hooks_tell, kept_of, stakes_kept}
-use Rattle.chain_modules.specs.Marks.{GoOn}
-use Rattle.chain_modules.proofs.HookLemmas.{held_as}
+use Rattle.chain_modules.{specs.Marks.GoOn, proofs.HookLemmas.held_as}
 use Rattle.chain_transactions.specs.Answers.{MessageEnds, delegation_asked}
 use Rattle.chain_transactions.proofs.EndLemmas.{cancel_ends, create_ends, delegate_ends, dropped, held_first, redelegate_ends, steady_after, undelegate_ends}
 use Rattle.chain_transactions.proofs.GoLemmas.{all_on, hook_marks, hooked_on, hooks_behind, redelegating_on, register_on, shared_on, unbonding_on}

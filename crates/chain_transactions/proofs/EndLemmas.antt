@@ -1,36 +1,23 @@
 -- From what a module's call answers and leaves to what a message of the whole machine does.
-use Rattle.std.proofs.Common.{◌≡◌, ◌∙◌, ℕ, List, [], Result, Ok, Err, refl, sym, ap, subst}
-use Rattle.std.specs.Prelude.{⊤, OnOk, IfOk, All, Contains}
-use Rattle.std.proofs.lemmas.List.Elements.{All-from_recursion}
+use Rattle.std.proofs.Common.{◌≡◌, ◌∙◌, ℕ, List, [], Result, Ok, Err, refl, sym, ap, subst, OnOk, IfOk, All, Contains}
+use Rattle.std.{specs.Prelude.⊤, proofs.lemmas.List.Elements.All-from_recursion}
 use Rattle.base_coins.specs.declared.coin.Coin.{Coin}
-use Rattle.base_roles.specs.declared.faults.MessageFault.{MessageFault}
-use Rattle.base_roles.specs.declared.messages.CreateValidator.{CreateValidator}
-use Rattle.base_roles.specs.declared.params.Ctx.{Ctx}
-use Rattle.base_roles.specs.declared.refusal.Refusal.{Refusal}
-use Rattle.base_roles.specs.Answers.{AnswersAs, AsRuled, StopsForMemory, RefusesAs}
-use Rattle.base_roles.specs.Staked.{Staked}
-use Rattle.base_roles.specs.Flow.{◌>>=◌}
+use Rattle.base_roles.specs.declared.{faults.MessageFault.MessageFault, messages.CreateValidator.CreateValidator}
+use Rattle.base_roles.specs.declared.{params.Ctx.Ctx, refusal.Refusal.Refusal}
+use Rattle.base_roles.specs.{Answers.{AnswersAs, AsRuled, StopsForMemory, RefusesAs}, Staked.Staked, Flow.{◌>>=◌}}
 use Rattle.base_roles.specs.World.{World}
 use Rattle.rule_modules.specs.Chain.{Hooks, State, Stakes, chain_told, staked_in, with_staked}
-use Rattle.rule_modules.specs.Delegating.{delegated_by}
-use Rattle.rule_modules.specs.Distribution.{Shared}
+use Rattle.rule_modules.specs.{Delegating.delegated_by, Distribution.Shared}
 use Rattle.rule_modules.specs.Effects.{Effect, create_validator, delegate, undelegate, begin_redelegate, cancel_unbonding}
-use Rattle.rule_modules.specs.StepLaws.{AreWhole}
-use Rattle.rule_modules.specs.Redelegations.{RedelegationLists, redelegated}
-use Rattle.rule_modules.specs.Sound.{IsSound}
-use Rattle.rule_modules.specs.Unbondings.{UnbondingLists, cancelled, undelegated}
-use Rattle.rule_modules.specs.Validators.{created}
+use Rattle.rule_modules.specs.{StepLaws.AreWhole, Redelegations.{RedelegationLists, redelegated}, Sound.IsSound}
+use Rattle.rule_modules.specs.{Unbondings.{UnbondingLists, cancelled, undelegated}, Validators.created}
 use Rattle.mod_staking.specs.Calls.{over}
 use Rattle.mod_entries.specs.Answers.{AnswersBoth}
 use Rattle.base_messages.specs.declared.message.Msg.{Msg}
 use Rattle.base_messages.specs.declared.message.Msg.TheVariants as msg
-use Rattle.rule_machine.specs.Messages.{effect_of}
-use Rattle.rule_machine.specs.Promises.{MessageHasCoins}
-use Rattle.law_soundness.proofs.Burns.{total_in}
-use Rattle.law_soundness.proofs.Leaving.{to_whole}
-use Rattle.law_soundness.proofs.Lists.{weaker}
-use Rattle.law_soundness.proofs.Points.{AreAllWhole, MessageLeft, WholeEntries, from_fits, to_fits}
-use Rattle.law_soundness.proofs.Steps.{weaker_if}
+use Rattle.rule_machine.specs.{Messages.effect_of, Promises.MessageHasCoins}
+use Rattle.law_soundness.proofs.{Burns.total_in, Leaving.to_whole, Lists.weaker}
+use Rattle.law_soundness.proofs.{Points.{AreAllWhole, MessageLeft, WholeEntries, from_fits, to_fits}, Steps.weaker_if}
 use Rattle.law_soundness.proofs.Transactions.{message_fits}
 use Rattle.mod_signing.specs.Stands.{Signings}
 use Rattle.chain_modules.specs.declared.modules.Modules.{Modules}
@@ -38,8 +25,7 @@ use Rattle.chain_modules.specs.Kept.{KeptState, Keeps, StandsWhole, AreSteady, g
 use Rattle.chain_modules.specs.Marks.{GoOn}
 use Rattle.chain_modules.proofs.CarryLemmas.{cancelled_carried, carried, carried_by, carried_ok, carried_with, created_carried, delegated_by_carried, redelegated_carried, undelegated_carried}
 use Rattle.chain_modules.proofs.HookLemmas.{answers_on, held_as, logged_again, told_as, told_itself, unlogged}
-use Rattle.chain_transactions.specs.Answers.{MessageEnds}
-use Rattle.chain_transactions.proofs.MessageLemmas.{done}
+use Rattle.chain_transactions.{specs.Answers.MessageEnds, proofs.MessageLemmas.done}
 
 -- ---- what the laws give of a state after a message
 

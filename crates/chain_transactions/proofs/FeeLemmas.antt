@@ -1,26 +1,15 @@
 -- The fee of a transaction: what its law gives, and modules that are steady behind it.
-use Rattle.std.proofs.Common.{◌≡◌, ◌∙◌, ℕ, true, List, Ok, Err, sym, ap}
-use Rattle.std.specs.Prelude.{IfOk, Contains}
+use Rattle.std.proofs.Common.{◌≡◌, ◌∙◌, ℕ, true, List, Ok, Err, sym, ap, IfOk, Contains}
 use Rattle.base_types.specs.declared.account.Account.TheVariants as account
 use Rattle.base_types.specs.declared.account.Module.TheVariants as holder
 use Rattle.base_coins.specs.Coins.{Money, IsMoney}
-use Rattle.base_roles.specs.declared.params.Ctx.{Ctx}
-use Rattle.base_roles.specs.declared.refusal.Refusal.TheVariants.{FeeUnpaid}
-use Rattle.base_roles.specs.Holdings.{is_short}
-use Rattle.base_roles.specs.Flow.{◌>>◌, stop_if}
-use Rattle.base_roles.specs.World.{View, over_view, sent}
-use Rattle.rule_modules.specs.Chain.{State}
-use Rattle.rule_modules.specs.Effects.{fee_paid}
-use Rattle.rule_modules.specs.StepLaws.{AreWhole}
-use Rattle.rule_modules.specs.Sound.{IsSound}
-use Rattle.law_soundness.proofs.Burns.{total_in}
-use Rattle.law_soundness.proofs.Leaving.{to_whole}
-use Rattle.law_soundness.proofs.Moves.{fee_fits}
-use Rattle.law_soundness.proofs.Points.{StateLeft, from_fits, to_fits}
-use Rattle.law_soundness.proofs.Steps.{from_if, weaker_if}
+use Rattle.base_roles.specs.{declared.{params.Ctx.Ctx, refusal.Refusal.TheVariants.FeeUnpaid}, Holdings.is_short}
+use Rattle.base_roles.specs.{Flow.{◌>>◌, stop_if}, World.{View, over_view, sent}}
+use Rattle.rule_modules.specs.{Chain.State, Effects.fee_paid, StepLaws.AreWhole, Sound.IsSound}
+use Rattle.law_soundness.proofs.{Burns.total_in, Leaving.to_whole, Moves.fee_fits}
+use Rattle.law_soundness.proofs.{Points.{StateLeft, from_fits, to_fits}, Steps.{from_if, weaker_if}}
 use Rattle.chain_modules.specs.declared.modules.Modules.{Modules}
-use Rattle.chain_modules.specs.Kept.{KeptState, Keeps, StandsWhole, AreSteady, kept_of}
-use Rattle.chain_modules.specs.Marks.{GoOn}
+use Rattle.chain_modules.specs.{Kept.{KeptState, Keeps, StandsWhole, AreSteady, kept_of}, Marks.GoOn}
 use Rattle.chain_modules.proofs.StandLemmas.{whole_same}
 use Rattle.chain_transactions.proofs.EndLemmas.{IsNext, from_whole}
 

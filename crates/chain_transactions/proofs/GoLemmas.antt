@@ -1,24 +1,18 @@
 -- What each module's call leaves behind its records, so that what it changed can be taken back.
-use Rattle.std.proofs.Common.{◌≡◌, ◌∙◌, ℕ, List, [], ◌∷◌, Result, Ok, Err, refl, sym, ap}
-use Rattle.std.specs.Prelude.{⊤, OnOk, IfErr}
+use Rattle.std.proofs.Common.{◌≡◌, ◌∙◌, ℕ, List, [], ◌∷◌, Result, Ok, Err, refl, sym, ap, OnOk, IfErr}
+use Rattle.std.specs.Prelude.{⊤}
 use Rattle.base_types.specs.declared.account.Account.{Account}
 use Rattle.base_types.specs.declared.account.Account.TheVariants as account
 use Rattle.base_coins.specs.Coins.{Money}
-use Rattle.base_roles.specs.declared.facts.Fact.{Fact}
+use Rattle.base_roles.specs.declared.{facts.Fact.Fact, faults.{BankFault.BankFault, HookFault.HookFault}}
+use Rattle.base_roles.specs.{declared.faults.MessageFault.MessageFault, Answers.{Answers, Sends}, Ground.CanBeUndone}
+use Rattle.base_roles.specs.{Holdings.{Holdings, transfer_told}, World.{View, gives}}
 use Rattle.base_roles.specs.declared.facts.Fact.TheVariants as fact
-use Rattle.base_roles.specs.declared.faults.BankFault.{BankFault}
 use Rattle.base_roles.specs.declared.faults.BankFault.TheVariants as fault
-use Rattle.base_roles.specs.declared.faults.HookFault.{HookFault}
 use Rattle.base_roles.specs.declared.faults.HookFault.TheVariants as hook
-use Rattle.base_roles.specs.declared.faults.MessageFault.{MessageFault}
 use Rattle.base_roles.specs.declared.faults.MessageFault.TheVariants as stop
-use Rattle.base_roles.specs.Answers.{Answers, Sends}
-use Rattle.base_roles.specs.Ground.{CanBeUndone}
-use Rattle.base_roles.specs.Holdings.{Holdings, transfer_told}
-use Rattle.base_roles.specs.World.{View, gives}
 use Rattle.mod_bank.specs.Booked as bank
-use Rattle.mod_bank.specs.Booked.{Booked}
-use Rattle.mod_bank.specs.Sending.{Transfers}
+use Rattle.mod_bank.specs.{Booked.Booked, Sending.Transfers}
 use Rattle.mod_staking.specs.Registered as book
 use Rattle.mod_staking.specs.Scenes.{GoesOn, RegisterGoesOn}
 use Rattle.mod_entries.specs.Answers.{EntriesGoOn}
@@ -26,8 +20,7 @@ use Rattle.mod_entries.specs.Kept as entries
 use Rattle.mod_distribution.specs.Kept as distr
 use Rattle.mod_distribution.specs.Kept.{SharedGoesOn}
 use Rattle.mod_signing.specs.Kept as window
-use Rattle.chain_modules.specs.declared.modules.Modules.{Modules}
-use Rattle.chain_modules.specs.Kept.{HooksSeen, ground_of, kept_of}
+use Rattle.chain_modules.specs.{declared.modules.Modules.Modules, Kept.{HooksSeen, ground_of, kept_of}}
 use Rattle.chain_modules.specs.Marks.{Follow, GoOn}
 use Rattle.chain_transactions.proofs.MessageLemmas.{append_nil}
 

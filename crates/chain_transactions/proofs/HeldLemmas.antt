@@ -1,41 +1,30 @@
 -- The messages without hooks, and the fee: from what a module's call answers and leaves to what a message of the whole machine does.
-use Rattle.std.proofs.Common.{◌≡◌, ◌∙◌, ℕ, Bool, true, false, List, [], ◌∷◌, Option, Some, None, Result, Ok, Err, sym, ap, subst}
-use Rattle.std.specs.Prelude.{⊤, if◌then◌else◌}
+use Rattle.std.proofs.Common.{◌≡◌, ◌∙◌, ℕ, Bool, true, false, List, [], ◌∷◌, Option, Some, None, Result, Ok, Err, sym, ap, subst, if◌then◌else◌}
+use Rattle.std.specs.Prelude.{⊤}
 use Rattle.base_types.specs.declared.account.Account.{Account}
 use Rattle.base_types.specs.declared.account.Account.TheVariants as account
 use Rattle.base_types.specs.declared.account.Module.TheVariants as holder
 use Rattle.base_coins.specs.Coins.{Money, IsMoney}
-use Rattle.base_roles.specs.declared.entities.Validator.{Validator}
-use Rattle.base_roles.specs.declared.facts.Fact.{Fact}
-use Rattle.base_roles.specs.declared.faults.MessageFault.{MessageFault}
-use Rattle.base_roles.specs.declared.faults.MessageFault.TheVariants as stop
-use Rattle.base_roles.specs.declared.messages.EditValidator.{EditValidator}
-use Rattle.base_roles.specs.declared.params.Ctx.{Ctx}
-use Rattle.base_roles.specs.declared.refusal.Refusal.{Refusal}
+use Rattle.base_roles.specs.declared.{entities.Validator.Validator, facts.Fact.Fact, faults.MessageFault.MessageFault}
+use Rattle.base_roles.specs.declared.{messages.EditValidator.EditValidator, params.Ctx.Ctx, refusal.Refusal.Refusal}
 use Rattle.base_roles.specs.declared.refusal.Refusal.TheVariants.{NonPositive, ModuleRecipient, InsufficientFunds, FeeUnpaid, NoValidator, NoDelegation, Overflow}
-use Rattle.base_roles.specs.Answers.{AsRuled, Sends, StopsForMemory, RefusesAs}
-use Rattle.base_roles.specs.Holdings.{Holdings, is_short}
-use Rattle.base_roles.specs.Log.{Log}
-use Rattle.base_roles.specs.Staked.{Staked, delegation, validator_at}
-use Rattle.base_roles.specs.Flow.{◌>>=◌, ◌>>◌, or_stop, stop_if, stopping}
-use Rattle.base_roles.specs.World.{View, over_mine, over_view, sent}
-use Rattle.rule_modules.specs.Answers.{AnswersHeld}
-use Rattle.rule_modules.specs.Chain.{State, Stakes, shared_in, window_in, with_shared}
+use Rattle.base_roles.specs.{Answers.{AsRuled, Sends, StopsForMemory, RefusesAs}, Holdings.{Holdings, is_short}}
+use Rattle.base_roles.specs.{Log.Log, Staked.{Staked, delegation, validator_at}}
+use Rattle.base_roles.specs.{Flow.{◌>>=◌, ◌>>◌, or_stop, stop_if, stopping}, World.{View, over_mine, over_view, sent}}
+use Rattle.base_roles.specs.declared.faults.MessageFault.TheVariants as stop
+use Rattle.rule_modules.specs.{Answers.AnswersHeld, Chain.{State, Stakes, shared_in, window_in, with_shared}}
 use Rattle.rule_modules.specs.Distribution.{Shared, reward_renewed}
 use Rattle.rule_modules.specs.Effects.{community_pool_spend, edit_validator, fee_paid, fund_community_pool, send, set_withdraw_address, unjail, withdraw_commission, withdraw_reward}
-use Rattle.rule_modules.specs.Validators.{edited}
-use Rattle.rule_modules.specs.Window.{unjailed}
+use Rattle.rule_modules.specs.{Validators.edited, Window.unjailed}
 use Rattle.rule_modules.specs.Withdrawals.{commission_withdrawn, payee_set, pool_funded, pool_spent, reward_taken}
 use Rattle.mod_bank.specs.Sending.{Transfers}
 use Rattle.mod_staking.specs.Calls.{edited_over}
 use Rattle.base_messages.specs.declared.message.Msg.TheVariants as msg
 use Rattle.mod_signing.specs.Stands.{KeepsSignings}
-use Rattle.mod_distribution.specs.Calls.{CarriesOutOrRefuses, SetsOrRefuses}
-use Rattle.mod_distribution.specs.Stands.{KeepsShared}
+use Rattle.mod_distribution.specs.{Calls.{CarriesOutOrRefuses, SetsOrRefuses}, Stands.KeepsShared}
 use Rattle.chain_modules.specs.declared.modules.Modules.{Modules}
 use Rattle.chain_modules.specs.Kept.{Keeps, StandsWhole, ground_of, kept_of, stakes_kept}
-use Rattle.chain_transactions.specs.Answers.{MessageEnds, delegation_asked}
-use Rattle.chain_transactions.proofs.EndLemmas.{dropped, message_ends}
+use Rattle.chain_transactions.{specs.Answers.{MessageEnds, delegation_asked}, proofs.EndLemmas.{dropped, message_ends}}
 
 -- ---- a reward that is asked for
 

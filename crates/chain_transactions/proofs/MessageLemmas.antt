@@ -1,18 +1,13 @@
 -- Messages that were carried out so far.
 use Rattle.std.proofs.Common.{◌≡◌, ◌∙◌, ℕ, ◌+◌, ◌≤◌, ◌<◌, List, [], ◌∷◌, drop, length, get_or, map, add-one, drop-cons, ◌++◌, Option, Some, None, Result, Ok, Err, refl, sym, ap, subst, arith}
-use Rattle.base_roles.specs.declared.faults.MessageFault.{MessageFault}
+use Rattle.base_roles.specs.declared.{faults.MessageFault.MessageFault, refusal.Refusal.Refusal}
+use Rattle.base_roles.specs.{Answers.StopsForMemory, Flow.{◌>>=◌, stopping}}
 use Rattle.base_roles.specs.declared.faults.MessageFault.TheVariants as stop
-use Rattle.base_roles.specs.declared.refusal.Refusal.{Refusal}
-use Rattle.base_roles.specs.Answers.{StopsForMemory}
-use Rattle.base_roles.specs.Flow.{◌>>=◌, stopping}
-use Rattle.rule_modules.specs.Chain.{State}
+use Rattle.rule_modules.specs.{Chain.State, Effects.effects_of}
 use Rattle.base_messages.specs.declared.message.Msg.{Msg}
-use Rattle.rule_modules.specs.Effects.{effects_of}
 use Rattle.rule_machine.specs.Messages.{effect_of}
-use Rattle.chain_modules.specs.declared.modules.Modules.{Modules}
-use Rattle.chain_modules.specs.Kept.{KeptState, StandsWhole, kept_of, AreSteady}
-use Rattle.chain_modules.specs.Marks.{MessagesGoOn}
-use Rattle.chain_modules.proofs.MarkLemmas.{at_moment, stay_on, then_messages}
+use Rattle.chain_modules.specs.{declared.modules.Modules.Modules, Kept.{KeptState, StandsWhole, kept_of, AreSteady}}
+use Rattle.chain_modules.{specs.Marks.MessagesGoOn, proofs.MarkLemmas.{at_moment, stay_on, then_messages}}
 use Rattle.chain_transactions.specs.Answers.{MessageEnds, MessagesEnd}
 
 -- ---- lists from a place on

@@ -1,27 +1,18 @@
 -- Transactions that were applied so far.
-use Rattle.std.proofs.Common.{◌≡◌, ◌∙◌, ℕ, ◌+◌, ◌<◌, List, [], ◌∷◌, ◌++◌, drop, take, length, get_or, map, append_assoc, Some, None, Result, Ok, Err, refl, sym, ap, subst}
-use Rattle.std.specs.Prelude.{IfOk}
-use Rattle.base_roles.specs.declared.facts.Fact.{Fact}
-use Rattle.base_roles.specs.declared.refusal.Refusal.{Refusal}
-use Rattle.base_roles.specs.Ground.{SameMoment}
+use Rattle.std.proofs.Common.{◌≡◌, ◌∙◌, ℕ, ◌+◌, ◌<◌, List, [], ◌∷◌, ◌++◌, drop, take, length, get_or, map, append_assoc, Some, None, Result, Ok, Err, refl, sym, ap, subst, IfOk}
+use Rattle.base_roles.specs.{declared.{facts.Fact.Fact, refusal.Refusal.Refusal}, Ground.SameMoment}
 use Rattle.base_roles.proofs.MomentLemmas.{same_moment_twice}
-use Rattle.base_messages.specs.declared.block.Tx.{Tx}
-use Rattle.base_messages.specs.declared.report.TxReport.{TxReport}
-use Rattle.rule_modules.specs.Chain.{State}
-use Rattle.rule_modules.specs.Effects.{Effect, effects_of, stands_or_fee, after_fee, transaction_applied}
-use Rattle.base_messages.specs.declared.report.Outcome.{Outcome}
+use Rattle.base_messages.specs.declared.{block.Tx.Tx, report.{TxReport.TxReport, Outcome.Outcome}}
 use Rattle.base_messages.specs.declared.report.Outcome.TheVariants.{Accepted, Refused}
-use Rattle.rule_machine.specs.Messages.{effect_of}
-use Rattle.rule_machine.specs.GenesisState.{without_facts}
+use Rattle.rule_modules.specs.{Chain.State, Effects.{Effect, effects_of, stands_or_fee, after_fee, transaction_applied}}
+use Rattle.rule_machine.specs.{Messages.effect_of, GenesisState.without_facts}
 use Rattle.rule_machine.specs.Machine.{TxSteps, reported_as, tx_applied, txs_applied}
 use Rattle.chain_modules.specs.declared.modules.Modules.{Modules}
 use Rattle.chain_modules.specs.Kept.{KeptState, StandsWhole, kept_of, kept_over, parts_of, AreSteady}
 use Rattle.chain_modules.specs.Marks.{Follow, MessagesGoOn, behind_of, marks_of, opened}
 use Rattle.chain_modules.proofs.MarkLemmas.{marks_behind, restored}
-use Rattle.chain_modules.proofs.StandLemmas.{begins_so, whole_cleared, whole_same}
-use Rattle.chain_modules.proofs.StandLemmas.{cleared as without_told}
-use Rattle.chain_transactions.specs.Answers.{MessagesEnd, EndsAs}
-use Rattle.chain_transactions.proofs.MessageLemmas.{next, append_nil}
+use Rattle.chain_modules.proofs.StandLemmas.{begins_so, whole_cleared, whole_same, cleared as without_told}
+use Rattle.chain_transactions.{specs.Answers.{MessagesEnd, EndsAs}, proofs.MessageLemmas.{next, append_nil}}
 
 -- ---- one transaction
 

@@ -2,16 +2,11 @@
 use Rattle.std.proofs.Common.{◌≡◌, ◌∙◌, ℕ, ◌≤◌, List, [], ◌∷◌, ◌++◌, Ok, Err, refl, sym, ap, subst}
 use Rattle.base_roles.specs.declared.facts.Fact.TheVariants as fact
 use Rattle.base_roles.specs.declared.faults.MessageFault.TheVariants as stop
-use Rattle.base_roles.specs.declared.params.Ctx.{Ctx}
-use Rattle.base_roles.specs.declared.params.Params.{Params}
-use Rattle.base_roles.specs.declared.refusal.Refusal.{Refusal}
-use Rattle.base_roles.specs.Answers.{AsRuled, StopsForMemory, RefusesAs}
-use Rattle.base_roles.specs.Flow.{◌>>◌}
-use Rattle.base_roles.specs.Ground.{SameMoment}
+use Rattle.base_roles.specs.declared.{params.{Ctx.Ctx, Params.Params}, refusal.Refusal.Refusal}
+use Rattle.base_roles.specs.{Answers.{AsRuled, StopsForMemory, RefusesAs}, Flow.{◌>>◌}, Ground.SameMoment}
 use Rattle.base_roles.specs.World.{View, noted}
 use Rattle.base_messages.specs.declared.message.Msg.TheVariants as msg
-use Rattle.rule_modules.proofs.ParameterLemmas.{fixed_same, let_in}
-use Rattle.rule_modules.specs.Chain.{State, shared_in, window_in}
+use Rattle.rule_modules.{proofs.ParameterLemmas.{fixed_same, let_in}, specs.Chain.{State, shared_in, window_in}}
 use Rattle.rule_modules.specs.Parameters.{may_update, update_params, with_params, with_updated}
 use Rattle.rule_modules.specs.Window.{Window, window_resized}
 use Rattle.mod_staking.specs.Registered as book
@@ -22,13 +17,9 @@ use Rattle.mod_signing.specs.Kept as window
 use Rattle.mod_signing.specs.Stands.{KeepsSignings}
 use Rattle.chain_modules.specs.declared.modules.Modules.{Modules}
 use Rattle.chain_modules.specs.Kept.{KeptState, Keeps, StandsWhole, AreSteady, kept_of, stakes_kept}
-use Rattle.chain_modules.specs.Marks.{MessagesGoOn, behind_of}
-use Rattle.chain_modules.proofs.MarkLemmas.{at_moment}
-use Rattle.chain_modules.proofs.SceneLemmas.{ground_kept}
-use Rattle.chain_transactions.specs.Answers.{MessageEnds}
-use Rattle.chain_transactions.proofs.EndLemmas.{message_ends}
-use Rattle.chain_transactions.proofs.GoLemmas.{all_on, ground_stays}
-use Rattle.chain_transactions.proofs.MessageLemmas.{done}
+use Rattle.chain_modules.{specs.Marks.{MessagesGoOn, behind_of}, proofs.{MarkLemmas.at_moment, SceneLemmas.ground_kept}}
+use Rattle.chain_transactions.{specs.Answers.MessageEnds, proofs.EndLemmas.message_ends}
+use Rattle.chain_transactions.proofs.{GoLemmas.{all_on, ground_stays}, MessageLemmas.done}
 
 -- modules with other parameters, the signing records in their window, and the fact
 pub record IsUpdated {E : Type 0} (authority : List ℕ) (p : Params) (old new : Modules E) : Type 0 where

@@ -1,38 +1,27 @@
 -- A validator and a delegation of a genesis: from what staking's calls answer and leave to what the genesis does; and all of them so far.
-use Rattle.std.proofs.Common.{◌≡◌, ◌∙◌, ℕ, ◌+◌, ◌<◌, List, [], ◌∷◌, drop, length, get_or, Option, Some, None, Result, Ok, Err, refl, sym, ap, subst}
-use Rattle.std.specs.Prelude.{⊤, IsSome}
+use Rattle.std.proofs.Common.{◌≡◌, ◌∙◌, ℕ, ◌+◌, ◌<◌, List, [], ◌∷◌, drop, length, get_or, Option, Some, None, Result, Ok, Err, refl, sym, ap, subst, IsSome}
+use Rattle.std.specs.Prelude.{⊤}
 use Rattle.base_types.specs.declared.status.BondStatus.TheVariants.{Unbonded}
 use Rattle.base_decimals.specs.declared.over.Over.{Over}
-use Rattle.base_roles.specs.declared.entities.Validator.{Validator}
-use Rattle.base_roles.specs.declared.faults.HookFault.{HookFault}
-use Rattle.base_roles.specs.declared.faults.MessageFault.{MessageFault}
-use Rattle.base_roles.specs.declared.refusal.Refusal.{Refusal}
+use Rattle.base_roles.specs.declared.{entities.Validator.Validator, faults.HookFault.HookFault}
+use Rattle.base_roles.specs.declared.{faults.MessageFault.MessageFault, refusal.Refusal.Refusal}
 use Rattle.base_roles.specs.declared.refusal.Refusal.TheVariants.{NoValidator, Overflow}
 use Rattle.base_roles.specs.Answers.{AnswersAs, AsRuled, RefusesAs, StopsForMemory, WantsMemory}
-use Rattle.base_roles.specs.Staked.{Staked, validator_at}
-use Rattle.base_roles.specs.Flow.{◌>>=◌, or_stop, stopping}
-use Rattle.base_roles.specs.World.{World}
-use Rattle.base_messages.specs.declared.genesis.Genesis.{Genesis}
-use Rattle.base_messages.specs.declared.genesis.GenesisDelegation.{GenesisDelegation}
+use Rattle.base_roles.specs.{Staked.{Staked, validator_at}, Flow.{◌>>=◌, or_stop, stopping}, World.World}
+use Rattle.base_messages.specs.declared.genesis.{Genesis.Genesis, GenesisDelegation.GenesisDelegation}
 use Rattle.base_messages.specs.declared.genesis.GenesisValidator.{GenesisValidator}
-use Rattle.rule_modules.specs.Answers.{Leaves}
-use Rattle.rule_modules.specs.Chain.{Hooks, State, chain_told, staked_in, with_staked}
-use Rattle.rule_modules.specs.Delegating.{delegated, pool}
-use Rattle.rule_modules.specs.Validators.{new_validator, stored}
+use Rattle.rule_modules.specs.{Answers.Leaves, Chain.{Hooks, State, chain_told, staked_in, with_staked}}
+use Rattle.rule_modules.specs.{Delegating.{delegated, pool}, Validators.{new_validator, stored}}
 use Rattle.mod_staking.specs.Calls.{over}
 use Rattle.rule_machine.specs.GenesisConditions.{creation_of, start_condition}
-use Rattle.rule_machine.specs.GenesisState.{delegation_added, validator_added}
-use Rattle.rule_machine.specs.Promises.{IsGoodGenesis}
+use Rattle.rule_machine.specs.{GenesisState.{delegation_added, validator_added}, Promises.IsGoodGenesis}
 use Rattle.chain_modules.specs.declared.modules.Modules.{Modules}
-use Rattle.chain_modules.specs.Kept.{Keeps, IsStakeScene, ground_of, hooks_hold, hooks_tell, kept_of}
-use Rattle.chain_modules.specs.Marks.{GoOn}
+use Rattle.chain_modules.specs.{Kept.{Keeps, IsStakeScene, ground_of, hooks_hold, hooks_tell, kept_of}, Marks.GoOn}
 use Rattle.chain_modules.proofs.CarryLemmas.{delegated_carried, stored_carried}
 use Rattle.chain_modules.proofs.HookLemmas.{held_as, logged_again, told_as, told_itself, unlogged}
 use Rattle.chain_modules.proofs.MarkLemmas.{stay_on, then_on}
-use Rattle.chain_transactions.proofs.EndLemmas.{dropped, ends_hooked, told_here}
-use Rattle.chain_transactions.proofs.MessageLemmas.{next}
-use Rattle.chain_blocks.proofs.EndLemmas.{leads_hooked}
-use Rattle.chain_blocks.specs.Answers.{Leads}
+use Rattle.chain_transactions.proofs.{EndLemmas.{dropped, ends_hooked, told_here}, MessageLemmas.next}
+use Rattle.chain_blocks.{proofs.EndLemmas.leads_hooked, specs.Answers.Leads}
 use Rattle.chain_whole.specs.Founding.{AreAdding, IsAdded, IsEmpty, IsNextDelegation, IsNextValidator, delegations_left, set_left}
 use Rattle.chain_whole.proofs.FoundingLemmas.{AreEntering, all_entered, first_entering, next_enters, next_joins, then_adding, then_entering}
 

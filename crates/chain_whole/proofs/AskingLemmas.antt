@@ -1,23 +1,17 @@
 -- What is asked of distribution for a delegation that stands, and what its answer says.
-use Rattle.std.proofs.Common.{◌≡◌, ◌∙◌, ℕ, List, Option, Some, None, Result, Ok, Err, refl, sym, ap, subst}
-use Rattle.std.specs.Prelude.{IsSome, is_some}
+use Rattle.std.proofs.Common.{◌≡◌, ◌∙◌, ℕ, List, Option, Some, None, Result, Ok, Err, refl, sym, ap, subst, IsSome, is_some}
 use Rattle.base_decimals.specs.declared.over.Over.{Over}
 use Rattle.base_coins.specs.Coins.{Money}
-use Rattle.base_roles.specs.declared.entities.Validator.{Validator}
-use Rattle.base_roles.specs.declared.faults.HookFault.{HookFault}
-use Rattle.base_roles.specs.declared.faults.HookFault.TheVariants as hook
+use Rattle.base_roles.specs.declared.{entities.Validator.Validator, faults.HookFault.HookFault}
 use Rattle.base_roles.specs.Staked.{delegation, lists_of, validator_at}
+use Rattle.base_roles.specs.declared.faults.HookFault.TheVariants as hook
 use Rattle.base_messages.specs.declared.report.Pending.{Pending}
-use Rattle.rule_modules.specs.Chain.{State, Stakes, shared_in}
-use Rattle.rule_modules.specs.Distribution.{pending}
-use Rattle.rule_modules.proofs.SoundLemmas.{to_points}
+use Rattle.rule_modules.{specs.{Chain.{State, Stakes, shared_in}, Distribution.pending}, proofs.SoundLemmas.to_points}
 use Rattle.mod_periods.specs.Answers.{Gives}
-use Rattle.mod_distribution.specs.Calls.{AreShares, HasStarted}
-use Rattle.mod_distribution.proofs.ReadyLemmas.{has_started}
+use Rattle.mod_distribution.{specs.Calls.{AreShares, HasStarted}, proofs.ReadyLemmas.has_started}
 use Rattle.rule_machine.specs.Report.{pending_at, unless_over}
 use Rattle.law_soundness.proofs.Within.{shares_some, shares_within}
-use Rattle.chain_modules.specs.Kept.{KeptState, StandsFor}
-use Rattle.chain_modules.proofs.SceneLemmas.{distribution_stands}
+use Rattle.chain_modules.{specs.Kept.{KeptState, StandsFor}, proofs.SceneLemmas.distribution_stands}
 use Rattle.chain_whole.specs.Pending.{pending_for}
 
 module _ (k : KeptState) (p : State) (s : StandsFor k p) (who operator : List ℕ) (shares : ℕ) (is : delegation k.stakes.staked who operator ≡ Some shares) where

@@ -1,9 +1,6 @@
 -- A chain between two blocks: what stays of it, and what it lists.
 use Rattle.std.proofs.Common.{◌≡◌, Bool, List, [], Err, false, refl, sym, ap, subst}
-use Rattle.base_roles.specs.declared.items.Item.{Item}
-use Rattle.base_roles.specs.declared.params.Ctx.{Ctx}
-use Rattle.base_roles.specs.Holdings.{IsBacked}
-use Rattle.base_roles.specs.Items.{AreChanges}
+use Rattle.base_roles.specs.{declared.{items.Item.Item, params.Ctx.Ctx}, Holdings.IsBacked, Items.AreChanges}
 use Rattle.base_roles.specs.World.{View}
 use Rattle.base_messages.specs.declared.faults.BlockFault.{BlockFault}
 use Rattle.base_messages.specs.declared.faults.BlockFault.TheVariants as block
@@ -12,11 +9,8 @@ use Rattle.mod_distribution.specs.Items as distr
 use Rattle.rule_machine.specs.Items.{IsInKeyOrder, items_of}
 use Rattle.chain_modules.specs.declared.modules.Modules.{Modules}
 use Rattle.chain_modules.specs.Kept.{KeptState, Parts, StandsFor, kept_of, kept_over, parts_of}
-use Rattle.chain_modules.specs.Marks.{AreAtRest, settled_of, settled_over}
-use Rattle.chain_modules.specs.Items.{items_of as module_items}
-use Rattle.chain_whole.specs.Answers.{LeavesChain}
-use Rattle.chain_whole.specs.Chained.{chained}
-use Rattle.chain_whole.proofs.ItemLemmas.{items_are_kept}
+use Rattle.chain_modules.specs.{Marks.{AreAtRest, settled_of, settled_over}, Items.{items_of as module_items}}
+use Rattle.chain_whole.{specs.{Answers.LeavesChain, Chained.chained}, proofs.ItemLemmas.items_are_kept}
 
 -- modules that are settled and have no facts keep what was settled
 pub settled_now : {E : Type 0} (m : Modules E) → settled_of m ≡ parts_of m → m.ground.facts ≡ [] → settled_over m.ground.ctx m ≡ kept_of m

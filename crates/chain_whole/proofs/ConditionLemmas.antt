@@ -1,9 +1,6 @@
 -- The first of several conditions that holds.
-use Rattle.std.proofs.Common.{◌≡◌, ◌∙◌, ℕ, Bool, true, false, List, [], ◌∷◌, ◌++◌, map, Option, Some, None, Result, Ok, Err, refl, sym, ap, subst}
-use Rattle.std.specs.Prelude.{MatchOption, IfOk}
-use Rattle.std.specs.Prelude.{nat_lt, not, ◌||◌}
-use Rattle.std.specs.List.{list_any}
-use Rattle.std.specs.BTreeMap.{is_at}
+use Rattle.std.proofs.Common.{◌≡◌, ◌∙◌, ℕ, Bool, true, false, List, [], ◌∷◌, ◌++◌, map, Option, Some, None, Result, Ok, Err, refl, sym, ap, subst, MatchOption, IfOk, nat_lt, not, ◌||◌}
+use Rattle.std.specs.{List.list_any, BTreeMap.is_at}
 use Rattle.base_types.specs.Orders.{addr_cmp}
 use Rattle.base_messages.specs.declared.genesis.Genesis.{Genesis}
 use Rattle.rule_machine.specs.Genesis.{first_that_holds, supplies_with, has_too_much, denominations_with}

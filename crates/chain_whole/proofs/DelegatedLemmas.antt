@@ -1,15 +1,10 @@
 -- What is delegated at the start, and how much there is of each denomination with it.
-use Rattle.std.proofs.Common.{◌≡◌, ◌∙◌, ℕ, ◌+◌, ◌^◌, ◌≤◌, ◌<◌, Bool, true, false, cond, nat_lt, List, [], ◌∷◌, ◌++◌, map, drop, Option, Some, None, refl, sym, ap, subst, arith}
-use Rattle.std.specs.Prelude.{◌==◌, sum, IsSome, MatchOption}
-use Rattle.std.specs.BTreeMap.{is_at, insert_entry}
-use Rattle.std.specs.Map.{remove_entry}
-use Rattle.std.proofs.lemmas.Bool.{true≢false}
-use Rattle.std.proofs.lemmas.Bool.Decides.{nat_tests}
+use Rattle.std.proofs.Common.{◌≡◌, ◌∙◌, ℕ, ◌+◌, ◌^◌, ◌≤◌, ◌<◌, Bool, true, false, cond, nat_lt, List, [], ◌∷◌, ◌++◌, map, drop, Option, Some, None, refl, sym, ap, subst, arith, ◌==◌, sum, IsSome, MatchOption, true≢false}
+use Rattle.std.{specs.{BTreeMap.{is_at, insert_entry}, Map.remove_entry}, proofs.lemmas.Bool.Decides.nat_tests}
 use Rattle.base_types.specs.Orders.{denom_cmp}
 use Rattle.base_coins.specs.Coins.{Money, IsMoney, amount_of, with_amount, coin_then, sorted_coins}
 use Rattle.base_coins.proofs.Order.{money_from_rises, money-nil}
-use Rattle.base_messages.specs.declared.genesis.Genesis.{Genesis}
-use Rattle.base_messages.specs.declared.genesis.GenesisAccount.{GenesisAccount}
+use Rattle.base_messages.specs.declared.genesis.{Genesis.Genesis, GenesisAccount.GenesisAccount}
 use Rattle.base_messages.specs.declared.genesis.GenesisDelegation.{GenesisDelegation}
 use Rattle.rule_machine.specs.Genesis.{coins_joined, supplies_with}
 use Rattle.rule_machine.specs.GenesisConditions.{delegated_coins, accounts_at_start, start_condition}

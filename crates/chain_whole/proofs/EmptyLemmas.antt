@@ -1,44 +1,25 @@
 -- Modules over the bank of a genesis, before its first validator.
-use Rattle.std.proofs.Common.{◌≡◌, ◌∙◌, ℕ, ◌≤◌, List, [], None, Some, refl, sym, ap, subst, arith}
-use Rattle.std.specs.Prelude.{Contains}
-use Rattle.std.specs.List.Sorted.{IsStrictlySortedBy}
-use Rattle.std.specs.Map.{keys_of}
-use Rattle.std.proofs.lemmas.List.Elements.{All-nil}
+use Rattle.std.proofs.Common.{◌≡◌, ◌∙◌, ℕ, ◌≤◌, List, [], None, Some, refl, sym, ap, subst, arith, Contains}
+use Rattle.std.{specs.{List.Sorted.IsStrictlySortedBy, Map.keys_of}, proofs.lemmas.List.Elements.All-nil}
 use Rattle.base_coins.proofs.Order.{money-nil}
-use Rattle.base_roles.specs.declared.bank.Ground.{Ground}
-use Rattle.base_roles.specs.declared.entities.Purse.{Purse}
-use Rattle.base_roles.specs.Hooks.{Stand}
-use Rattle.base_roles.specs.Owing.{HoldsOwed}
-use Rattle.base_roles.specs.Staked.{Staked, bonded_tokens, lists_of, other_tokens}
-use Rattle.base_roles.specs.StakeChanges.{HoldsStake}
+use Rattle.base_roles.specs.{declared.{bank.Ground.Ground, entities.Purse.Purse}, Hooks.Stand, Owing.HoldsOwed}
+use Rattle.base_roles.specs.{Staked.{Staked, bonded_tokens, lists_of, other_tokens}, StakeChanges.HoldsStake}
 use Rattle.base_roles.specs.World.{View}
 use Rattle.base_messages.specs.declared.genesis.Genesis.{Genesis}
-use Rattle.rule_modules.specs.Distribution.{nothing_shared}
-use Rattle.rule_modules.specs.Owed.{owed_from_distribution}
-use Rattle.rule_modules.specs.Periods.{Periods}
-use Rattle.rule_modules.specs.Sound.{PeriodsAreSound, PurseIsSound}
-use Rattle.rule_modules.proofs.SoundLemmas.{from_points, none_sound}
+use Rattle.rule_modules.specs.{Distribution.nothing_shared, Owed.owed_from_distribution, Periods.Periods}
+use Rattle.rule_modules.{specs.Sound.{PeriodsAreSound, PurseIsSound}, proofs.SoundLemmas.{from_points, none_sound}}
 use Rattle.mod_bank.specs.Booked.{Booked}
-use Rattle.mod_staking.specs.Calls.{IsSoundStake}
-use Rattle.mod_staking.specs.Registered.{Registered, no_stake}
-use Rattle.mod_staking.specs.Scenes.{IsScene}
+use Rattle.mod_staking.specs.{Calls.IsSoundStake, Registered.{Registered, no_stake}, Scenes.IsScene}
 use Rattle.mod_entries.specs.Kept as entries
 use Rattle.mod_periods.proofs.InitLemmas.{none-kept}
-use Rattle.mod_signing.specs.Kept.{Windowed}
-use Rattle.mod_signing.specs.Stands.{KeepsSignings}
-use Rattle.mod_distribution.specs.Kept.{Distributed, nothing_kept}
-use Rattle.mod_distribution.specs.Stands.{KeepsShared}
-use Rattle.mod_distribution.specs.Tells.{AreFor}
-use Rattle.rule_machine.specs.Genesis.{held_at_start}
-use Rattle.rule_machine.specs.GenesisConditions.{accounts_at_start, start_condition}
-use Rattle.rule_machine.specs.GenesisState.{empty_over, ground_at_start}
-use Rattle.rule_machine.proofs.StartLemmas.{start_in_order}
-use Rattle.law_soundness.proofs.Burns.{total_in}
-use Rattle.law_soundness.proofs.Starting.{held_supplied, start_fits}
+use Rattle.mod_signing.specs.{Kept.Windowed, Stands.KeepsSignings}
+use Rattle.mod_distribution.specs.{Kept.{Distributed, nothing_kept}, Stands.KeepsShared, Tells.AreFor}
+use Rattle.rule_machine.specs.{Genesis.held_at_start, GenesisConditions.{accounts_at_start, start_condition}}
+use Rattle.rule_machine.{specs.GenesisState.{empty_over, ground_at_start}, proofs.StartLemmas.start_in_order}
+use Rattle.law_soundness.proofs.{Burns.total_in, Starting.{held_supplied, start_fits}}
 use Rattle.chain_modules.specs.declared.modules.Modules.{Modules}
 use Rattle.chain_modules.specs.Kept.{Keeps, IsNewOver, ground_of, hooks_hold, hooks_tell, kept_of}
-use Rattle.chain_modules.specs.Marks.{marks_of, no_marks}
-use Rattle.chain_modules.proofs.HookLemmas.{held_as}
+use Rattle.chain_modules.{specs.Marks.{marks_of, no_marks}, proofs.HookLemmas.held_as}
 use Rattle.chain_whole.specs.Founding.{IsEmpty}
 
 -- ---- hooks that hold nothing

@@ -1,20 +1,14 @@
 -- A block that is answered from a state whose accounts are reached goes fairly.
-use Rattle.std.proofs.Common.{◌≡◌, ℕ, ◌+◌, ◌^◌, ◌<◌, Result, Ok, Err, arith}
-use Rattle.std.specs.Prelude.{All, IfOk, ⊤}
-use Rattle.base_messages.specs.declared.block.Block.{Block}
-use Rattle.base_messages.specs.declared.faults.BlockFault.{BlockFault}
+use Rattle.std.proofs.Common.{◌≡◌, ℕ, ◌+◌, ◌^◌, ◌<◌, Result, Ok, Err, arith, All, IfOk}
+use Rattle.std.specs.Prelude.{⊤}
+use Rattle.base_messages.specs.declared.{block.Block.Block, faults.BlockFault.BlockFault}
 use Rattle.base_messages.specs.declared.report.BlockReport.{BlockReport}
-use Rattle.rule_machine.proofs.DueLemmas.{IsDue, is_due}
-use Rattle.rule_machine.specs.Machine.{Step, block_checked, step}
+use Rattle.rule_machine.{proofs.DueLemmas.{IsDue, is_due}, specs.Machine.{Step, block_checked, step}}
 use Rattle.rule_machine.specs.Promises.{TxHasCoins}
-use Rattle.rule_modules.specs.Chain.{State}
-use Rattle.rule_modules.specs.Sound.{IsSound}
-use Rattle.law_rewards.specs.Running.{AreStarted}
-use Rattle.law_rewards.specs.States.{AreReached}
-use Rattle.law_soundness.proofs.Running.{first_ok}
-use Rattle.law_soundness.proofs.Steps.{from_if}
-use Rattle.law_runs.proofs.Going.{blocks_go_fairly}
-use Rattle.law_runs.specs.Going.{GoesFairly}
+use Rattle.rule_modules.specs.{Chain.State, Sound.IsSound}
+use Rattle.law_rewards.specs.{Running.AreStarted, States.AreReached}
+use Rattle.law_soundness.proofs.{Running.first_ok, Steps.from_if}
+use Rattle.law_runs.{proofs.Going.blocks_go_fairly, specs.Going.GoesFairly}
 use Rattle.chain_modules.specs.Kept.{KeptState}
 use Rattle.chain_blocks.specs.Answers.{Applies}
 use Rattle.chain_whole.specs.Answers.{GoesOnFairly}

@@ -1,32 +1,22 @@
 -- A genesis of which no condition holds, over modules: none of its steps is refused, and each leads on.
-use Rattle.std.proofs.Common.{◌≡◌, ◌∙◌, List, [], ◌∷◌, None, Result, Ok, Err, refl, sym, ap, subst}
-use Rattle.std.specs.Prelude.{IsOkAnd, IsSome}
+use Rattle.std.proofs.Common.{◌≡◌, ◌∙◌, List, [], ◌∷◌, None, Result, Ok, Err, refl, sym, ap, subst, IsOkAnd, IsSome}
 use Rattle.std.proofs.lemmas.List.Elements.{All-from_recursion, recursion_from_All}
 use Rattle.base_types.specs.declared.status.BondStatus.TheVariants.{Unbonded}
 use Rattle.base_decimals.specs.declared.over.Over.{Over}
-use Rattle.base_roles.specs.declared.faults.HookFault.{HookFault}
-use Rattle.base_roles.specs.declared.refusal.Refusal.{Refusal}
-use Rattle.base_roles.specs.declared.refusal.Refusal.TheVariants.{Overflow}
+use Rattle.base_roles.specs.declared.{faults.HookFault.HookFault, refusal.Refusal.{Refusal, TheVariants.Overflow}}
 use Rattle.base_roles.specs.Answers.{WantsMemory}
 use Rattle.base_roles.specs.Staked.{Staked, delegation, put_validator, validator_at, validator_by_cons}
-use Rattle.base_roles.specs.Flow.{◌>>=◌, each, stopping}
-use Rattle.base_roles.specs.World.{View}
-use Rattle.base_messages.specs.declared.genesis.Genesis.{Genesis}
-use Rattle.base_messages.specs.declared.genesis.GenesisDelegation.{GenesisDelegation}
+use Rattle.base_roles.specs.{Flow.{◌>>=◌, each, stopping}, World.View}
+use Rattle.base_messages.specs.declared.genesis.{Genesis.Genesis, GenesisDelegation.GenesisDelegation}
 use Rattle.base_messages.specs.declared.genesis.GenesisValidator.{GenesisValidator}
-use Rattle.rule_modules.specs.BondedSet.{set_updated}
-use Rattle.rule_modules.specs.Chain.{State, Stakes, chain_told, set_step, staked_in}
-use Rattle.rule_modules.specs.Delegating.{pool}
-use Rattle.rule_modules.specs.Sound.{IsSound}
+use Rattle.rule_modules.specs.{BondedSet.set_updated, Chain.{State, Stakes, chain_told, set_step, staked_in}}
+use Rattle.rule_modules.specs.{Delegating.pool, Sound.IsSound}
 use Rattle.mod_staking.specs.Calls.{HasOrigin}
 use Rattle.rule_machine.specs.GenesisConditions.{start_condition}
 use Rattle.rule_machine.specs.GenesisState.{Start, chain_started, delegation_added, empty_over, ground_at_start, stake_added, validator_added, without_facts}
-use Rattle.rule_machine.specs.Promises.{IsGoodGenesis}
-use Rattle.rule_machine.proofs.EnterLemmas.{IsEntering, Enters, entering, one_enters}
-use Rattle.rule_machine.proofs.StartLemmas.{Added, entrant, one_added}
-use Rattle.rule_machine.proofs.UnhookedLemmas.{over}
-use Rattle.law_soundness.proofs.Founding.{genesis_is_sound}
-use Rattle.law_soundness.proofs.Halfway.{IsHalfway, all_to_come, further, plainly}
+use Rattle.rule_machine.{specs.Promises.IsGoodGenesis, proofs.EnterLemmas.{IsEntering, Enters, entering, one_enters}}
+use Rattle.rule_machine.proofs.{StartLemmas.{Added, entrant, one_added}, UnhookedLemmas.over}
+use Rattle.law_soundness.proofs.{Founding.genesis_is_sound, Halfway.{IsHalfway, all_to_come, further, plainly}}
 use Rattle.law_soundness.proofs.Steps.{from_if}
 use Rattle.chain_blocks.specs.Answers.{Leads}
 use Rattle.chain_modules.specs.declared.modules.Modules.{Modules}

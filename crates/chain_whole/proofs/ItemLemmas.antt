@@ -1,31 +1,23 @@
 -- What the modules keep is listed as the items of each state for which it stands.
-use Rattle.std.proofs.Common.{◌≡◌, ◌∙◌, ℕ, zero, suc, ◌≤◌, Bool, List, [], ◌∷◌, ◌++◌, append_assoc, length, map, take, drop, Option, Some, None, option_map, refl, sym, ap, subst, arith, inl, inr}
-use Rattle.std.specs.Prelude.{◌-◌, ◌%◌, ◌⊎◌, reverse}
-use Rattle.std.specs.List.{cons_option, filter_map, flat_map}
-use Rattle.std.proofs.lemmas.List.{drop_at, length-append, map-append, take-append-drop, take_at}
+use Rattle.std.proofs.Common.{◌≡◌, ◌∙◌, ℕ, zero, suc, ◌≤◌, Bool, List, [], ◌∷◌, ◌++◌, append_assoc, length, map, take, drop, Option, Some, None, option_map, refl, sym, ap, subst, arith, inl, inr, ◌-◌, ◌%◌, ◌⊎◌, reverse, filter_map, flat_map, drop_at, length-append, take-append-drop, take_at}
+use Rattle.std.{specs.List.cons_option, proofs.lemmas.List.map-append}
 use Rattle.base_coins.specs.Coins.{Money}
-use Rattle.base_roles.specs.declared.entities.Historical.{Historical}
-use Rattle.base_roles.specs.declared.entities.SlashEvent.{SlashEvent}
-use Rattle.base_roles.specs.declared.items.Item.{Item}
-use Rattle.base_roles.specs.declared.items.Item.TheVariants as item
+use Rattle.base_roles.specs.declared.{entities.{Historical.Historical, SlashEvent.SlashEvent}, items.Item.Item}
 use Rattle.base_roles.specs.World.{View}
+use Rattle.base_roles.specs.declared.items.Item.TheVariants as item
 use Rattle.base_records.specs.Items.{rows_of}
-use Rattle.rule_modules.specs.Chain.{State, shared_in, window_in}
-use Rattle.rule_modules.specs.Distribution.{Shared}
-use Rattle.rule_modules.specs.Periods.{Periods, Rewards, history_kept, starts_of}
-use Rattle.rule_modules.specs.Sound.{RewardsAreSound}
+use Rattle.rule_modules.specs.{Chain.{State, shared_in, window_in}, Distribution.Shared}
+use Rattle.rule_modules.specs.{Periods.{Periods, Rewards, history_kept, starts_of}, Sound.RewardsAreSound}
 use Rattle.rule_modules.specs.Window.{Window, IsRing}
 use Rattle.mod_allocation.specs.Items as alloc
 use Rattle.mod_bank.specs.Items as bank
 use Rattle.mod_periods.specs.Kept as f1
 use Rattle.mod_periods.specs.Items.{current_item, event_item, historical_item, start_item, items_of as record_items}
 use Rattle.mod_periods.specs.Stands.{KeepsRewards}
-use Rattle.mod_signing.specs.Kept.{Kept}
+use Rattle.mod_signing.specs.{Kept.Kept, Stands.KeepsSignings}
 use Rattle.mod_signing.specs.Items as window
-use Rattle.mod_signing.specs.Stands.{KeepsSignings}
-use Rattle.mod_distribution.specs.Kept.{KeptShared}
+use Rattle.mod_distribution.specs.{Kept.KeptShared, Stands.KeepsShared}
 use Rattle.mod_distribution.specs.Items as distr
-use Rattle.mod_distribution.specs.Stands.{KeepsShared}
 use Rattle.rule_machine.specs.Items.{entry_items, historical_items, holding_items, items_of, reward_items, ring_of, shared_items, signing_items, staked_items}
 use Rattle.chain_modules.specs.Kept.{KeptState, StandsFor}
 use Rattle.chain_modules.specs.Items.{ctx_items, items_of_stakes, items_of as module_items}

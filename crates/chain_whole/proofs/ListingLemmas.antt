@@ -1,30 +1,18 @@
 -- The supplies among the items of a bank.
-use Rattle.std.proofs.Common.{◌≡◌, ◌∙◌, ℕ, ◌^◌, ◌<◌, Bool, true, false, List, [], ◌∷◌, ◌++◌, ◌+◌, map, take, length, get_or, refl, sym, ap, arith, rules}
-use Rattle.std.specs.Prelude.{All, ◌||◌, nat_lt, Result, Ok, Err, IfErr, IsOk}
-use Rattle.std.proofs.lemmas.Bool.{true≢false}
-use Rattle.base_coins.specs.declared.fault.CoinFault.{CoinFault}
+use Rattle.std.proofs.Common.{◌≡◌, ◌∙◌, ℕ, ◌^◌, ◌<◌, Bool, true, false, List, [], ◌∷◌, ◌++◌, ◌+◌, map, take, length, get_or, refl, sym, ap, arith, rules, All, ◌||◌, nat_lt, Result, Ok, Err, IfErr, IsOk, true≢false, filter_map, option_to_list}
+use Rattle.base_coins.specs.declared.{fault.CoinFault.CoinFault, coin.Coin.Coin}
+use Rattle.base_coins.{specs.Coins.{Money, IsMoney, sorted_coins, stands_twice}, proofs.Amounts.same_list}
+use Rattle.base_coins.proofs.{Order.rises_from_money, Sorting.{rises_sorted, amount-sorted, kept_once}}
 use Rattle.base_coins.specs.declared.fault.CoinFault.TheVariants as fault
-use Rattle.std.proofs.lemmas.Bool.Decides.{nat_tests}
-use Rattle.std.specs.List.{filter_map}
-use Rattle.std.proofs.lemmas.Grind.{common_steps}
-use Rattle.std.specs.Option.{option_to_list}
-use Rattle.base_roles.specs.declared.items.Item.{Item}
+use Rattle.std.proofs.lemmas.{Bool.Decides.nat_tests, Grind.common_steps}
 use Rattle.std.proofs.lemmas.List.Elements.{filter_map-append, All-nil, All-cons, All-head, All-tail}
 use Rattle.std.proofs.lemmas.List.Sorted.{IsPermutation-refl}
-use Rattle.base_coins.specs.declared.coin.Coin.{Coin}
-use Rattle.base_coins.specs.Coins.{Money, IsMoney, sorted_coins, stands_twice}
-use Rattle.base_coins.proofs.Amounts.{same_list}
-use Rattle.base_coins.proofs.Order.{rises_from_money}
-use Rattle.base_coins.proofs.Sorting.{rises_sorted, amount-sorted, kept_once}
+use Rattle.base_roles.specs.{declared.items.Item.Item, Holdings.{Balances, Holdings, IsBacked}, Staked.Staked}
 use Rattle.base_records.specs.Items.{rows_of}
 use Rattle.mod_bank.specs.Items.{balance_item, supply_item, items_of}
 use Rattle.mod_staking.specs.Items.{items_of as stake_items}
-use Rattle.base_roles.specs.Holdings.{Balances, Holdings, IsBacked}
-use Rattle.base_roles.specs.Staked.{Staked}
-use Rattle.rule_machine.specs.Genesis.{has_too_much}
-use Rattle.rule_machine.specs.Items.{holding_items, staked_items}
-use Rattle.chain_whole.specs.Chained.{coin_in}
-use Rattle.chain_whole.proofs.SupplyLemmas.{not_too_much}
+use Rattle.rule_machine.specs.{Genesis.has_too_much, Items.{holding_items, staked_items}}
+use Rattle.chain_whole.{specs.Chained.coin_in, proofs.SupplyLemmas.not_too_much}
 
 -- a coin as a denomination and an amount
 abbrev pub pair : Coin → List ℕ × ℕ

@@ -1,21 +1,15 @@
 -- The pending rewards of one delegator among those of all delegations.
-use Rattle.std.proofs.Common.{◌≡◌, ◌∙◌, ℕ, ◌+◌, ◌<◌, ◌≤◌, Bool, true, false, cond, not, List, [], ◌∷◌, ◌++◌, filter, take, length, get_or, refl, sym, ap, arith}
-use Rattle.std.specs.List.{flat_map, AllByRecursion}
-use Rattle.std.specs.List.Sorted.{IsPermutation, IsStrictlySortedBy}
-use Rattle.std.specs.Map.{keys_of}
-use Rattle.std.proofs.lemmas.Grind.{common_steps, flat_map-append}
-use Rattle.std.proofs.lemmas.List.{take_all}
-use Rattle.std.proofs.lemmas.List.Elements.{All-from_recursion, filter-append}
+use Rattle.std.proofs.Common.{◌≡◌, ◌∙◌, ℕ, ◌+◌, ◌<◌, ◌≤◌, Bool, true, false, cond, not, List, [], ◌∷◌, ◌++◌, filter, take, length, get_or, refl, sym, ap, arith, flat_map, IsPermutation, take_all}
+use Rattle.std.specs.{List.{AllByRecursion, Sorted.IsStrictlySortedBy}, Map.keys_of}
+use Rattle.std.proofs.lemmas.{Grind.{common_steps, flat_map-append}, List.Elements.{All-from_recursion, filter-append}}
 use Rattle.std.proofs.lemmas.List.Sorted.{IsPermutation-filter_both, IsPermutation-trans}
-use Rattle.base_roles.specs.declared.items.Item.{Item}
+use Rattle.base_roles.specs.{declared.items.Item.Item, Orders.{pair_cmp, same_addr}}
 use Rattle.base_roles.specs.declared.items.Item.TheVariants as item
-use Rattle.base_roles.specs.Orders.{pair_cmp, same_addr}
 use Rattle.base_messages.specs.declared.report.Pending.{Pending}
 use Rattle.rule_modules.specs.Chain.{State, Stakes}
 use Rattle.mod_staking.specs.Items.{items_of}
 use Rattle.rule_machine.specs.Report.{pending_of}
-use Rattle.chain_modules.specs.declared.modules.Modules.{Modules}
-use Rattle.chain_modules.specs.Kept.{StandsFor, kept_of}
+use Rattle.chain_modules.specs.{declared.modules.Modules.Modules, Kept.{StandsFor, kept_of}}
 use Rattle.chain_whole.specs.Pending.{pending_for, pending_in, pending_of_item, is_pending_to, is_delegation_of, own_of_item, ArePendingTo}
 use Rattle.chain_whole.proofs.PendingLemmas.{pending_of_items, pending_permuted}
 

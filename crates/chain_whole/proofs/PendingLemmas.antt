@@ -1,35 +1,19 @@
 -- Pending rewards in the order of delegations, against those of the machine, by delegator first.
-use Rattle.std.proofs.Common.{◌≡◌, ◌∙◌, ℕ, ◌+◌, ◌<◌, ◌≤◌, List, [], ◌∷◌, ◌++◌, map, take, length, get_or, Some, refl, sym, ap, subst, arith}
-use Rattle.std.specs.Prelude.{◌≢◌, All}
-use Rattle.std.specs.declared.cmp.Ordering.{Ordering}
-use Rattle.std.specs.declared.cmp.Ordering.TheVariants.{Less, Equal, Greater}
-use Rattle.std.specs.Ordering.{is_eq, match_ordering}
-use Rattle.std.specs.Cmp.{tied_itself}
-use Rattle.std.specs.BTreeMap.{insert_entry}
-use Rattle.std.specs.List.{AllByRecursion, flat_map}
-use Rattle.std.specs.List.Sorted.{IsPermutation, IsStrictlySortedBy}
-use Rattle.std.specs.Map.{keys_of}
-use Rattle.std.proofs.lemmas.Grind.{common_steps, flat_map-append}
-use Rattle.std.proofs.lemmas.List.{append-nil, take_all}
-use Rattle.std.proofs.lemmas.List.Elements.{All-append, All-get_or, All-map}
+use Rattle.std.proofs.Common.{◌≡◌, ◌∙◌, ℕ, ◌+◌, ◌<◌, ◌≤◌, List, [], ◌∷◌, ◌++◌, map, take, length, get_or, Some, refl, sym, ap, subst, arith, ◌≢◌, All, Ordering, Less, Equal, Greater, is_eq, flat_map, IsPermutation, append-nil, take_all}
+use Rattle.std.specs.{Ordering.match_ordering, Cmp.tied_itself, BTreeMap.insert_entry, List.AllByRecursion}
+use Rattle.std.specs.{List.Sorted.IsStrictlySortedBy, Map.keys_of}
+use Rattle.std.proofs.lemmas.{Grind.{common_steps, flat_map-append}, List.Elements.{All-append, All-get_or, All-map}}
 use Rattle.std.proofs.lemmas.List.Sorted.{IsPermutation-append_right, IsPermutation-cons, IsPermutation-map, IsPermutation-middle, IsPermutation-refl, IsPermutation-sym, IsPermutation-trans}
 use Rattle.base_types.proofs.MapLemmas.{all-put, equal}
-use Rattle.base_roles.specs.declared.entities.Validator.{Validator}
-use Rattle.base_roles.specs.declared.items.Item.{Item}
-use Rattle.base_roles.specs.declared.items.Item.TheVariants as item
-use Rattle.base_roles.specs.Orders.{pair_cmp}
+use Rattle.base_roles.specs.{declared.{entities.Validator.Validator, items.Item.Item}, Orders.pair_cmp}
 use Rattle.base_roles.specs.Staked.{Staked, delegation, validator_at}
+use Rattle.base_roles.specs.declared.items.Item.TheVariants as item
 use Rattle.base_messages.specs.declared.report.Pending.{Pending}
-use Rattle.rule_modules.specs.Chain.{State, Stakes}
-use Rattle.rule_modules.proofs.EntryLemmas.{to_all}
-use Rattle.rule_modules.proofs.OrderLemmas.{pair_total}
+use Rattle.rule_modules.{specs.Chain.{State, Stakes}, proofs.{EntryLemmas.to_all, OrderLemmas.pair_total}}
 use Rattle.rule_modules.proofs.SoundLemmas.{exact_pair}
 use Rattle.mod_staking.specs.Items.{items_of}
-use Rattle.rule_machine.specs.Orders.{entries_with}
-use Rattle.rule_machine.specs.Report.{Delegations, by_delegator, pending_at, pending_of}
-use Rattle.chain_modules.specs.declared.modules.Modules.{Modules}
-use Rattle.chain_modules.specs.Kept.{StandsFor, kept_of}
-use Rattle.chain_modules.specs.Marks.{AreAtRest}
+use Rattle.rule_machine.specs.{Orders.entries_with, Report.{Delegations, by_delegator, pending_at, pending_of}}
+use Rattle.chain_modules.specs.{declared.modules.Modules.Modules, Kept.{StandsFor, kept_of}, Marks.AreAtRest}
 use Rattle.chain_whole.specs.Pending.{IsStanding, pending_for, pending_in, pending_of_item}
 
 -- ---- entries that are put in order

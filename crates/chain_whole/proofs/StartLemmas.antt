@@ -1,26 +1,19 @@
 -- The bank that a genesis starts.
-use Rattle.std.proofs.Common.{◌≡◌, ◌∙◌, ℕ, ◌+◌, ◌^◌, ◌≤◌, ◌<◌, Bool, true, false, cond, List, [], ◌∷◌, ◌++◌, map, take, length, get_or, Option, Some, None, refl, sym, ap, subst, arith}
-use Rattle.std.specs.Prelude.{unwrap_or, All}
+use Rattle.std.proofs.Common.{◌≡◌, ◌∙◌, ℕ, ◌+◌, ◌^◌, ◌≤◌, ◌<◌, Bool, true, false, cond, List, [], ◌∷◌, ◌++◌, map, take, length, get_or, Option, Some, None, refl, sym, ap, subst, arith, unwrap_or, All}
 use Rattle.std.proofs.lemmas.List.Elements.{All-nil, All-cons, All-head, All-tail, All-more, All-append}
-use Rattle.std.proofs.lemmas.List.{map_more, map-append}
-use Rattle.std.specs.Map.{lookup}
-use Rattle.std.specs.BTreeMap.{is_at}
-use Rattle.std.proofs.lemmas.Map.Text.{is_eq-slice_cmp}
-use Rattle.std.proofs.lemmas.Slice.Eq.{bytes_eq-Decides}
-use Rattle.base_types.specs.declared.account.Account.{Account}
+use Rattle.std.proofs.lemmas.{List.{map_more, map-append}, Map.Text.is_eq-slice_cmp, Slice.Eq.bytes_eq-Decides}
+use Rattle.std.specs.{Map.lookup, BTreeMap.is_at}
+use Rattle.base_types.specs.{declared.account.Account.Account, Orders.denom_cmp}
 use Rattle.base_types.specs.declared.account.Account.TheVariants as account
 use Rattle.base_types.specs.declared.account.Module.TheVariants as holder
-use Rattle.base_types.specs.Orders.{denom_cmp}
 use Rattle.base_coins.specs.Coins.{Money, IsMoney, amount_of}
 use Rattle.base_coins.proofs.Order.{Above, Rises, rises_from_money, amount-above}
 use Rattle.base_roles.specs.Holdings.{Holdings}
 use Rattle.mod_bank.specs.Given.{coin_given, coins_given, all_given, held_by as given_by, given_of, IsBounded}
-use Rattle.base_messages.specs.declared.genesis.Genesis.{Genesis}
-use Rattle.base_messages.specs.declared.genesis.GenesisAccount.{GenesisAccount}
+use Rattle.base_messages.specs.declared.genesis.{Genesis.Genesis, GenesisAccount.GenesisAccount}
 use Rattle.rule_machine.specs.Genesis.{with_coins, balances_with, coins_joined, supplies_with, held_at_start}
 use Rattle.rule_machine.specs.GenesisConditions.{start_condition, accounts_at_start, delegated_coins}
-use Rattle.rule_machine.proofs.Kept.{amount_within}
-use Rattle.rule_machine.proofs.StartLemmas.{may_start}
+use Rattle.rule_machine.proofs.{Kept.amount_within, StartLemmas.may_start}
 use Rattle.chain_whole.proofs.DelegatedLemmas.{amounts, delegated_most, one_money}
 use Rattle.chain_whole.proofs.SupplyLemmas.{Ascend, joined, amount-joined, ascend-joined, ascend_all, ascend-nil}
 

@@ -1,21 +1,14 @@
 -- Modules behind all of a genesis: what they keep without the facts that they told.
-use Rattle.std.proofs.Common.{◌≡◌, ◌∙◌, ◌^◌, ◌<◌, List, [], length, None, Result, Ok, Err, sym, ap, subst}
-use Rattle.std.specs.Prelude.{IfOk, IfErr}
-use Rattle.base_roles.specs.declared.facts.Fact.{Fact}
-use Rattle.base_roles.specs.declared.refusal.Refusal.{Refusal}
-use Rattle.base_roles.specs.World.{View}
-use Rattle.base_messages.specs.declared.genesis.Genesis.{Genesis}
-use Rattle.base_messages.specs.declared.genesis.GenesisDelegation.{GenesisDelegation}
+use Rattle.std.proofs.Common.{◌≡◌, ◌∙◌, ◌^◌, ◌<◌, List, [], length, None, Result, Ok, Err, sym, ap, subst, IfOk, IfErr}
+use Rattle.base_roles.specs.{declared.{facts.Fact.Fact, refusal.Refusal.Refusal}, World.View}
+use Rattle.base_messages.specs.declared.genesis.{Genesis.Genesis, GenesisDelegation.GenesisDelegation}
 use Rattle.rule_modules.specs.Chain.{State}
-use Rattle.rule_machine.specs.GenesisConditions.{start_condition}
-use Rattle.rule_machine.specs.GenesisState.{Start, without_facts}
+use Rattle.rule_machine.specs.{GenesisConditions.start_condition, GenesisState.{Start, without_facts}}
 use Rattle.rule_machine.specs.Promises.{IsGoodGenesis}
 use Rattle.chain_modules.specs.declared.modules.Modules.{Modules}
 use Rattle.chain_modules.specs.Kept.{KeptState, StandsFor, kept_of, kept_over, parts_of}
-use Rattle.chain_modules.specs.Marks.{AreAtRest, marks_of, no_marks}
-use Rattle.chain_modules.proofs.StandLemmas.{cleared, keeps_cleared}
-use Rattle.chain_whole.specs.Answers.{Starts}
-use Rattle.chain_whole.specs.declared.fault.ChainFault.{ChainFault}
+use Rattle.chain_modules.{specs.Marks.{AreAtRest, marks_of, no_marks}, proofs.StandLemmas.{cleared, keeps_cleared}}
+use Rattle.chain_whole.specs.{Answers.Starts, declared.fault.ChainFault.ChainFault}
 use Rattle.chain_whole.specs.Founding.{HaveStarted, StakeWorld, started_with}
 use Rattle.chain_whole.proofs.FoundingLemmas.{Founded, founded}
 

@@ -1,23 +1,15 @@
 -- Supplies that grow by the coins of a genesis.
-use Rattle.std.proofs.Common.{◌≡◌, ◌∙◌, ℕ, ◌+◌, ◌^◌, ◌≤◌, ◌<◌, Bool, true, false, cond, nat_lt, List, [], ◌∷◌, drop, length, get_or, Option, Some, None, refl, sym, ap, subst, arith, rules}
-use Rattle.std.specs.Prelude.{◌||◌, unwrap_or, slice_get, IsSome}
-use Rattle.std.specs.Option.{option_map}
-use Rattle.std.specs.List.Sorted.{IsStrictlySortedBy}
-use Rattle.std.specs.Map.{keys_of, lookup}
-use Rattle.std.specs.BTreeMap.{is_at}
+use Rattle.std.proofs.Common.{◌≡◌, ◌∙◌, ℕ, ◌+◌, ◌^◌, ◌≤◌, ◌<◌, Bool, true, false, cond, nat_lt, List, [], ◌∷◌, drop, length, get_or, Option, Some, None, refl, sym, ap, subst, arith, rules, ◌||◌, unwrap_or, slice_get, IsSome, option_map}
+use Rattle.std.specs.{List.Sorted.IsStrictlySortedBy, Map.{keys_of, lookup}, BTreeMap.is_at}
 use Rattle.std.proofs.lemmas.Bool.Decides.{nat_tests}
 use Rattle.std.proofs.lemmas.Option.{slice_get_within, get_or_from_slice_get, slice_get-get_or}
-use Rattle.std.proofs.lemmas.Map.Text.{is_eq-slice_cmp}
-use Rattle.std.proofs.lemmas.Slice.Eq.{bytes_eq-Decides}
+use Rattle.std.proofs.lemmas.{Map.Text.is_eq-slice_cmp, Slice.Eq.bytes_eq-Decides}
 use Rattle.base_types.specs.Orders.{denom_cmp}
-use Rattle.base_coins.specs.Coins.{Money, amount_of, with_amount}
-use Rattle.base_coins.proofs.Order.{above_keys, amount-above}
-use Rattle.base_roles.proofs.EntryLemmas.{number-after, ascend-after}
-use Rattle.base_roles.proofs.HoldingLemmas.{denom_total}
+use Rattle.base_coins.{specs.Coins.{Money, amount_of, with_amount}, proofs.Order.{above_keys, amount-above}}
+use Rattle.base_roles.proofs.{EntryLemmas.{number-after, ascend-after}, HoldingLemmas.denom_total}
 use Rattle.base_messages.specs.declared.genesis.GenesisAccount.{GenesisAccount}
 use Rattle.rule_machine.specs.Genesis.{coins_joined, supplies_with, has_too_much}
-use Rattle.chain_whole.specs.Supplies.{IsLow, IsHigh}
-use Rattle.chain_whole.proofs.PlaceLemmas.{next, drop_end}
+use Rattle.chain_whole.{specs.Supplies.{IsLow, IsHigh}, proofs.PlaceLemmas.{next, drop_end}}
 
 abbrev pub Ascend : Money → Type 0
 Ascend s = IsStrictlySortedBy denom_cmp (keys_of s)

@@ -1,17 +1,12 @@
 -- What written lines say was burned is what the facts say.
-use Rattle.std.specs.Prelude.{sum}
-use Rattle.std.specs.List.{flat_map}
-use Rattle.std.proofs.Common.{◌≡◌, ℕ, ◌+◌, List, [], ◌∷◌, ◌++◌, map, refl, sym, ap, ◌∙◌}
+use Rattle.std.proofs.Common.{sum, flat_map, ◌≡◌, ℕ, ◌+◌, List, [], ◌∷◌, ◌++◌, map, refl, sym, ap, ◌∙◌}
 use Rattle.std.proofs.lemmas.List.Sums.{sum_by-cons}
-use Rattle.base_roles.specs.Holdings.{supply_of}
-use Rattle.base_roles.specs.declared.facts.Fact.{Fact}
+use Rattle.base_roles.specs.{Holdings.supply_of, declared.facts.Fact.Fact}
 use Rattle.base_messages.specs.declared.report.BlockReport.{BlockReport}
 use Rattle.rule_modules.specs.Laws.{burned_in}
 use Rattle.rule_machine.specs.Promises.{facts_of, run_in}
-use Rattle.law_soundness.proofs.Burns.{burned_together}
-use Rattle.law_soundness.proofs.Starting.{supplies_fall_by_burns}
-use Rattle.law_lines.specs.Laws.{SuppliesFallByWrittenBurns, told_of}
-use Rattle.law_lines.proofs.ReportLemmas.{reports_read}
+use Rattle.law_soundness.proofs.{Burns.burned_together, Starting.supplies_fall_by_burns}
+use Rattle.law_lines.{specs.Laws.{SuppliesFallByWrittenBurns, told_of}, proofs.ReportLemmas.reports_read}
 
 abbrev pub facts_alone : List (ℕ × Fact) → List Fact
 facts_alone told = map (λ t. t.1) told

@@ -1,25 +1,18 @@
 -- The line of each kind of fact is read as the fact.
 use Rattle.std.proofs.Common.{◌≡◌, ℕ, ◌^◌, ◌<◌, List, Some, Option, option_map, refl, ap, ◌∙◌, arith}
-use Rattle.serde_json.specs.Data.{Data}
-use Rattle.serde_json.specs.Read.{max_depth}
-use Rattle.serde_json.specs.Written.{compact_text}
-use Rattle.base_types.specs.declared.account.Account.{Account}
-use Rattle.base_types.specs.declared.account.Module.{Module}
-use Rattle.base_types.specs.declared.status.BondStatus.{BondStatus}
+use Rattle.serde_json.specs.{Data.Data, Read.max_depth, Written.compact_text}
+use Rattle.base_types.specs.declared.{account.{Account.Account, Module.Module}, status.BondStatus.BondStatus}
 use Rattle.base_types.specs.Maybe.{◌>>=◌}
 use Rattle.base_bech32.specs.declared.form.Form.{Form}
-use Rattle.base_coins.specs.Coins.{Money}
-use Rattle.base_coins.specs.declared.coin.Coin.{Coin}
+use Rattle.base_coins.specs.{Coins.Money, declared.coin.Coin.Coin}
 use Rattle.base_roles.specs.declared.facts.Fact.{Fact}
 use Rattle.base_roles.specs.declared.facts.Fact.TheVariants as fact
-use Rattle.line_json.specs.Facts.{fact_data}
-use Rattle.line_json.specs.Members.{as_count}
-use Rattle.line_json.specs.Values.{count_data}
+use Rattle.line_json.specs.{Facts.fact_data, Members.as_count, Values.count_data}
+use Rattle.line_json.proofs.BackLemmas.{amount_is_read, denom_is_read}
+use Rattle.line_json.proofs.WrittenLemmas.{IsPlain, count, decimals, deeper, end, more, read_written, text, whole, whole_object}
 use Rattle.law_lines.specs.Ranges.{IsCount, IsFact}
 use Rattle.law_lines.specs.Reading.{allocated_of, burn_of, changed_of, commission_of, fact_in, of_validator, paid_of, params_changed_of, period_of, pooled_of, slashed_of, started_of, told_by, transfer_of}
-use Rattle.line_json.proofs.BackLemmas.{amount_is_read, denom_is_read}
 use Rattle.law_lines.proofs.ValueLemmas.{account_is_read, coins_are_read, dec_coins_are_read, decimal_is_read, module_is_read, operator_is_read, status_is_read, user_is_read}
-use Rattle.line_json.proofs.WrittenLemmas.{IsPlain, count, decimals, deeper, end, more, read_written, text, whole, whole_object}
 
 -- ---- members, one after another
 

@@ -1,20 +1,16 @@
 -- The lines of a genesis, of a block itself and of outcomes tell no fact.
 use Rattle.std.proofs.Common.{◌≡◌, ℕ, [], None, codes, refl, arith}
-use Rattle.serde_json.specs.Data.{Data}
-use Rattle.serde_json.specs.Written.{compact_text}
+use Rattle.serde_json.specs.{Data.Data, Written.compact_text}
 use Rattle.base_bech32.specs.declared.form.Form.{Form}
 use Rattle.base_coins.specs.Coins.{Money}
 use Rattle.base_roles.specs.declared.refusal.Refusal.{Refusal}
 use Rattle.base_roles.specs.declared.refusal.Refusal.TheVariants as refusal
 use Rattle.base_messages.specs.declared.report.Outcome.{Outcome}
 use Rattle.base_messages.specs.declared.report.Outcome.TheVariants as outcome
-use Rattle.line_json.specs.Line.{told_at}
-use Rattle.line_json.specs.Outcomes.{outcome_data, refused_members}
-use Rattle.line_json.specs.Written.{block_data, genesis_data}
-use Rattle.law_lines.specs.Ranges.{IsCount, IsOutcome, IsReason}
-use Rattle.law_lines.specs.Reading.{fact_in, told_by}
-use Rattle.law_lines.proofs.FactLemmas.{read_as}
+use Rattle.line_json.specs.{Line.told_at, Outcomes.{outcome_data, refused_members}, Written.{block_data, genesis_data}}
 use Rattle.line_json.proofs.WrittenLemmas.{IsPlain, count, end, more, text, whole, whole_object}
+use Rattle.law_lines.specs.{Ranges.{IsCount, IsOutcome, IsReason}, Reading.{fact_in, told_by}}
+use Rattle.law_lines.proofs.FactLemmas.{read_as}
 
 -- data that is read back, and tells no fact
 abbrev TellsNothing : Form → Data → Type 0

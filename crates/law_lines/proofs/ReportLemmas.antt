@@ -1,21 +1,15 @@
 -- The text of a block is cut into its lines, of which those of facts are read.
-use Rattle.std.specs.List.{cons_option, filter_map, flat_map}
-use Rattle.std.proofs.Common.{◌≡◌, ℕ, ◌+◌, ◌^◌, ◌<◌, List, [], ◌∷◌, ◌++◌, length, map, None, All, refl, sym, ap, ◌∙◌, arith, append_assoc, append-nil}
-use Rattle.std.proofs.lemmas.List.Elements.{All-head, All-tail}
-use Rattle.serde_json.specs.Data.{Data}
-use Rattle.serde_json.specs.Written.{compact_text}
+use Rattle.std.{specs.List.cons_option, proofs.lemmas.List.Elements.{All-head, All-tail}}
+use Rattle.std.proofs.Common.{filter_map, flat_map, ◌≡◌, ℕ, ◌+◌, ◌^◌, ◌<◌, List, [], ◌∷◌, ◌++◌, length, map, None, All, refl, sym, ap, ◌∙◌, arith, append_assoc, append-nil}
+use Rattle.serde_json.specs.{Data.Data, Written.compact_text}
 use Rattle.base_bech32.specs.declared.form.Form.{Form}
 use Rattle.base_roles.specs.declared.facts.Fact.{Fact}
-use Rattle.base_messages.specs.declared.report.BlockReport.{BlockReport}
-use Rattle.base_messages.specs.declared.report.TxReport.{TxReport}
-use Rattle.line_json.specs.Facts.{fact_data}
-use Rattle.line_json.specs.Line.{line_of}
-use Rattle.line_json.specs.Outcomes.{outcome_data}
+use Rattle.base_messages.specs.declared.report.{BlockReport.BlockReport, TxReport.TxReport}
+use Rattle.line_json.specs.{Facts.fact_data, Line.line_of, Outcomes.outcome_data}
 use Rattle.line_json.specs.Written.{block_data, genesis_data, text_of_block, text_of_facts, text_of_txs}
-use Rattle.law_lines.specs.Laws.{BlocksAreRead, GenesesTellNoFact, ReportsAreRead, told_of}
-use Rattle.law_lines.specs.Ranges.{IsCount, IsFact, IsReport, IsTxReport}
-use Rattle.law_lines.specs.Reading.{fact_in, facts_in}
 use Rattle.line_json.proofs.EndLemmas.{first_line}
+use Rattle.law_lines.specs.Laws.{BlocksAreRead, GenesesTellNoFact, ReportsAreRead, told_of}
+use Rattle.law_lines.specs.{Ranges.{IsCount, IsFact, IsReport, IsTxReport}, Reading.{fact_in, facts_in}}
 use Rattle.law_lines.proofs.FactLemmas.{fact_is_read}
 use Rattle.law_lines.proofs.OtherLemmas.{no_fact_of_block, no_fact_of_genesis, no_fact_of_outcome}
 

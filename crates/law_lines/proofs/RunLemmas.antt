@@ -1,36 +1,23 @@
 -- What the lines of a replay tell, from what the reports of its blocks do.
-use Rattle.std.specs.Prelude.{All, Contains, IfOk, ◌⊎◌}
-use Rattle.std.specs.List.{flat_map}
-use Rattle.std.proofs.Common.{◌≡◌, ℕ, ◌+◌, List, [], ◌∷◌, ◌++◌, map, inl, inr, Result, Ok, Err, refl, sym, ap, subst, ◌∙◌, append_assoc, append-nil}
+use Rattle.std.proofs.Common.{All, Contains, IfOk, ◌⊎◌, flat_map, ◌≡◌, ℕ, ◌+◌, List, [], ◌∷◌, ◌++◌, map, inl, inr, Result, Ok, Err, refl, sym, ap, subst, ◌∙◌, append_assoc, append-nil}
 use Rattle.std.proofs.lemmas.List.Elements.{All-contains, All-map, All-contains_itself, All-weaker, Contains-append_cases}
 use Rattle.base_bech32.specs.declared.form.Form.{Form}
 use Rattle.base_coins.specs.Coins.{Money}
-use Rattle.base_roles.specs.Holdings.{supply_of}
-use Rattle.base_roles.specs.Log.{Log}
-use Rattle.base_roles.specs.declared.facts.Fact.{Fact}
+use Rattle.base_roles.specs.{Holdings.supply_of, Log.Log, declared.facts.Fact.Fact}
 use Rattle.base_roles.specs.declared.facts.Fact.TheVariants as fact
-use Rattle.base_messages.specs.declared.block.Block.{Block}
-use Rattle.base_messages.specs.declared.block.Tx.{Tx}
-use Rattle.base_messages.specs.declared.faults.BlockFault.{BlockFault}
-use Rattle.base_messages.specs.declared.report.BlockReport.{BlockReport}
-use Rattle.base_messages.specs.declared.report.TxReport.{TxReport}
-use Rattle.rule_modules.specs.Chain.{State}
-use Rattle.rule_modules.specs.Laws.{burned_in}
+use Rattle.base_messages.specs.declared.{block.{Block.Block, Tx.Tx}, faults.BlockFault.BlockFault}
+use Rattle.base_messages.specs.declared.report.{BlockReport.BlockReport, TxReport.TxReport}
+use Rattle.rule_modules.specs.{Chain.State, Laws.burned_in}
 use Rattle.rule_machine.specs.Machine.{Step, going_on, run_of, step, tx_applied, txs_applied}
 use Rattle.rule_machine.specs.Promises.{Replayed, facts_of, run_in}
 use Rattle.law_soundness.specs.Kept.{InTurn, begun_by}
 use Rattle.law_rewards.specs.Withdrawals.{AreFair, AreSent, payments_in, payments_of}
-use Rattle.law_rewards.proofs.Finding.{payments_are_fairly_told}
-use Rattle.law_rewards.proofs.Paying.{fair_joined, payments_joined}
+use Rattle.law_rewards.proofs.{Finding.payments_are_fairly_told, Paying.{fair_joined, payments_joined}}
 use Rattle.law_runs.specs.Payees.{BlockPaysPayees, IsToPayee, IsToldByMessage, RunPaysPayees, TxPaysPayees}
-use Rattle.law_runs.specs.RunLaws.{RunSaysFairly}
-use Rattle.law_runs.specs.Runs.{SaysFairly}
-use Rattle.law_runs.proofs.Payees.{none_in, payees_are_of_the_moment}
+use Rattle.law_runs.{specs.{RunLaws.RunSaysFairly, Runs.SaysFairly}, proofs.Payees.{none_in, payees_are_of_the_moment}}
 use Rattle.law_runs.proofs.Saying.{both_sent, runs_say_fairly}
 use Rattle.line_json.specs.Written.{text_of_block}
-use Rattle.law_lines.specs.Laws.{facts_told, told_of}
-use Rattle.law_lines.specs.Ranges.{IsReport}
-use Rattle.law_lines.specs.Reading.{facts_in}
+use Rattle.law_lines.specs.{Laws.{facts_told, told_of}, Ranges.IsReport, Reading.facts_in}
 use Rattle.law_lines.specs.Runs.{IsFairlyWritten, IsToldAlong, IsToldByBlock, IsToldInTurn, LinesTell, RunsAreWritten, text_of_run}
 use Rattle.law_lines.proofs.BurnLemmas.{facts_alone, facts_first, written_burns}
 use Rattle.law_lines.proofs.ReportLemmas.{geneses_read, reports_read}

@@ -1,42 +1,28 @@
 -- The line of a statement is read as the statement.
-use Rattle.std.proofs.Common.{◌≡◌, ◌∙◌, ap, sym, refl, ℕ, ◌^◌, ◌<◌, lt-ltb, true, false, List, [], ◌∷◌, ◌++◌, map, decimal, Some, Result, Ok, codes, arith}
-use Rattle.std.specs.Prelude.{All}
-use Rattle.std.specs.List.{flat_map}
-use Rattle.std.proofs.lemmas.List.Elements.{All-cons, All-head, All-nil, All-tail}
-use Rattle.std.proofs.lemmas.Map.Keys.{IsDistinct-from_sorted}
-use Rattle.json.proofs.Printed.Utf8.{IsUtf8-are_ascii, are_ascii}
-use Rattle.serde_json.specs.Data.{string}
-use Rattle.serde_json.specs.Read.{max_depth}
-use Rattle.serde_json.specs.View.{items_of}
-use Rattle.base_types.specs.Denom.{is_denom}
-use Rattle.base_types.specs.Orders.{denom_cmp}
-use Rattle.base_bech32.specs.declared.form.Form.{Form}
-use Rattle.base_coins.specs.Coins.{IsMoney, Money, sorted_coins, stands_twice}
-use Rattle.base_coins.specs.Steps.{◌>>=◌}
-use Rattle.base_coins.specs.declared.coin.DecCoin.{DecCoin}
-use Rattle.base_coins.proofs.Amounts.{same_list}
-use Rattle.base_coins.proofs.Order.{rises_from_money}
-use Rattle.base_coins.proofs.Sorting.{amount-sorted, not_twice, rises_sorted}
+use Rattle.std.proofs.Common.{◌≡◌, ◌∙◌, ap, sym, refl, ℕ, ◌^◌, ◌<◌, lt-ltb, true, false, List, [], ◌∷◌, ◌++◌, map, decimal, Some, Result, Ok, codes, arith, All, flat_map}
+use Rattle.std.proofs.lemmas.{List.Elements.{All-cons, All-head, All-nil, All-tail}, Map.Keys.IsDistinct-from_sorted}
 use Rattle.std.specs.Map.{keys_of}
+use Rattle.json.proofs.Printed.Utf8.{IsUtf8-are_ascii, are_ascii}
+use Rattle.serde_json.specs.{Data.string, Read.max_depth, View.items_of}
+use Rattle.base_types.specs.{Denom.is_denom, Orders.denom_cmp}
+use Rattle.base_bech32.specs.declared.form.Form.{Form}
+use Rattle.base_coins.specs.{Coins.{IsMoney, Money, sorted_coins, stands_twice}, Steps.{◌>>=◌}}
+use Rattle.base_coins.{specs.declared.coin.DecCoin.DecCoin, proofs.{Amounts.same_list, Order.rises_from_money}}
+use Rattle.base_coins.proofs.Sorting.{amount-sorted, not_twice, rises_sorted}
 use Rattle.base_decimals.specs.Texts.{dec_text}
-use Rattle.base_messages.specs.declared.faults.LineFault.{LineFault}
-use Rattle.base_messages.specs.declared.faults.LineFault.TheVariants.{BadShape}
-use Rattle.line_json.specs.Coin.{dec_coin_of, dec_coins_at, money_of}
-use Rattle.line_json.specs.Members.{number_in}
-use Rattle.line_json.specs.Nested.{each_element, with_front}
-use Rattle.line_json.specs.Reading.{or_fault}
+use Rattle.base_messages.specs.declared.faults.LineFault.{LineFault, TheVariants.BadShape}
+use Rattle.line_json.specs.{Coin.{dec_coin_of, dec_coins_at, money_of}, Members.number_in}
+use Rattle.line_json.specs.{Nested.{each_element, with_front}, Reading.or_fault}
 use Rattle.line_json.specs.Values.{coin_data, count_data, dec_coins_data, decimal_data, whole_data}
-use Rattle.line_json.proofs.TextLemmas.{dec_text_is_utf8, denom_is_utf8}
-use Rattle.mod_statement.specs.declared.entry.Entry.{Entry}
+use Rattle.line_json.proofs.{TextLemmas.{dec_text_is_utf8, denom_is_utf8}, EndLemmas.first_line}
+use Rattle.line_json.proofs.BackLemmas.{amount_is_read, denom_is_read}
+use Rattle.mod_statement.specs.declared.{entry.Entry.Entry, statement.Statement.Statement}
 use Rattle.mod_statement.specs.declared.entry.Entry.TheVariants as entry
-use Rattle.mod_statement.specs.declared.statement.Statement.{Statement}
 use Rattle.line_statements.specs.Entries.{allocated_of, entries_data, entry_data, entry_of, kind_of, slashed_of, started_of}
 use Rattle.line_statements.specs.Statements.{statement_data, statement_of, statement_of_tree, text_of_statement}
 use Rattle.law_lines.specs.Statements.{AreDecCoins, IsEntry, IsStated, StatementsAreRead, StatementsDiffer, StatementsInTextsAreRead, statements_in}
-use Rattle.line_json.proofs.EndLemmas.{first_line}
 use Rattle.law_lines.proofs.TextLemmas.{AreSpelled, IsSpelled, amount_is_utf8, count, element, elements, end, members, more, no_elements, operator_is_utf8, spelled_deeper, text, tree_spelled, user_is_utf8}
 use Rattle.law_lines.proofs.ValueLemmas.{decimal_is_read, operator_is_read, user_is_read}
-use Rattle.line_json.proofs.BackLemmas.{amount_is_read, denom_is_read}
 
 -- ---- one step after another
 

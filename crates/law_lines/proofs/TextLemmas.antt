@@ -1,20 +1,14 @@
 -- Compact text of values whose strings are UTF-8 is UTF-8, and its tree is the value.
-use Rattle.std.proofs.Common.{◌≡◌, ℕ, suc, ◌^◌, ◌<◌, ◌≤◌, Bool, true, false, List, [], ◌∷◌, ◌++◌, decimal, Ok, refl, arith}
-use Rattle.std.specs.Str.{IsUtf8}
+use Rattle.std.proofs.Common.{◌≡◌, ℕ, suc, ◌^◌, ◌<◌, ◌≤◌, Bool, true, false, List, [], ◌∷◌, ◌++◌, decimal, Ok, refl, arith, IsUtf8}
 use Rattle.std.proofs.lemmas.Fmt.{IsAscii-decimal, IsAscii-decimal_wide}
 use Rattle.std.proofs.lemmas.Str.{IsUtf8-append, IsUtf8-from_ascii, IsUtf8-nil}
-use Rattle.json.specs.Print.{quoted}
-use Rattle.json.proofs.Printed.Utf8.{IsUtf8-are_ascii, IsUtf8-quoted, are_ascii}
+use Rattle.json.{specs.Print.quoted, proofs.Printed.Utf8.{IsUtf8-are_ascii, IsUtf8-quoted, are_ascii}}
 use Rattle.serde_json.specs.Data.{Data, number, unsigned, string, array, object, Items, no_items, item, Members, no_members, member, put}
-use Rattle.serde_json.specs.Read.{max_depth}
-use Rattle.serde_json.specs.Written.{comma_if, compact_text, items_text, members_text}
-use Rattle.base_bech32.specs.declared.form.Form.{Form}
-use Rattle.base_bech32.specs.declared.form.Form.TheVariants.{Hex, Bech32}
-use Rattle.base_bech32.specs.Spelling.{spelling_of}
+use Rattle.serde_json.specs.{Read.max_depth, Written.{comma_if, compact_text, items_text, members_text}}
+use Rattle.base_bech32.specs.{declared.form.Form.{Form, TheVariants.{Hex, Bech32}}, Spelling.spelling_of}
 use Rattle.base_bech32.proofs.SpellingLemmas.{spelling_is_ascii}
 use Rattle.base_types.proofs.DigitLemmas.{address_text_is_utf8}
-use Rattle.line_json.specs.Addresses.{account_prefix, operator_prefix, operator_text, user_text}
-use Rattle.line_json.specs.Reading.{tree_of}
+use Rattle.line_json.specs.{Addresses.{account_prefix, operator_prefix, operator_text, user_text}, Reading.tree_of}
 use Rattle.line_json.proofs.ReadingLemmas.{tree_found}
 use Rattle.line_json.proofs.WrittenLemmas.{AreElements, AreMembers, IsPlain, array_plain, count_plain, deeper, no_element, no_member, object_plain, one_element, one_member, read_written, string_plain}
 

@@ -1,20 +1,15 @@
 -- Values are read from what is written of them.
 use Rattle.std.proofs.Common.{◌≡◌, ℕ, ◌^◌, ◌<◌, List, [], ◌∷◌, map, Some, None, Option, option_and_then, option_map, refl, ap, ◌∙◌}
 use Rattle.std.proofs.lemmas.List.Elements.{All-head, All-tail}
-use Rattle.serde_json.specs.Data.{Data}
-use Rattle.serde_json.specs.View.{items_of}
+use Rattle.serde_json.specs.{Data.Data, View.items_of}
 use Rattle.base_decimals.proofs.Inverse.{written_read}
-use Rattle.base_types.specs.declared.account.Account.{Account}
-use Rattle.base_types.specs.declared.account.Account.TheVariants as account
-use Rattle.base_types.specs.declared.account.Module.{Module}
+use Rattle.base_types.specs.declared.account.{Account.Account, Module.Module}
 use Rattle.base_types.specs.declared.account.Module.TheVariants.{FeeCollector, Bonded, NotBonded, Distribution}
-use Rattle.base_types.specs.declared.status.BondStatus.{BondStatus}
-use Rattle.base_types.specs.declared.status.BondStatus.TheVariants as status
-use Rattle.base_types.specs.Maybe.{◌>>=◌}
-use Rattle.base_types.specs.Modules.{module_name, user_from}
+use Rattle.base_types.specs.{declared.status.BondStatus.BondStatus, Maybe.{◌>>=◌}, Modules.{module_name, user_from}}
 use Rattle.base_types.proofs.AccountLemmas.{address_of-module_name}
-use Rattle.base_bech32.specs.declared.form.Form.{Form}
-use Rattle.base_bech32.specs.declared.form.Form.TheVariants.{Hex, Bech32}
+use Rattle.base_types.specs.declared.account.Account.TheVariants as account
+use Rattle.base_types.specs.declared.status.BondStatus.TheVariants as status
+use Rattle.base_bech32.specs.declared.form.Form.{Form, TheVariants.{Hex, Bech32}}
 use Rattle.base_coins.specs.Coins.{Money}
 use Rattle.line_json.specs.Addresses.{account_text_in, operator_in, operator_text, user_in, user_text}
 use Rattle.line_json.specs.Values.{coin_data, coins_data, dec_coins_data, decimal_data, status_name, whole_data}

@@ -1,53 +1,29 @@
 -- The tests of the accounts decide that they hold what they owe.
-use Rattle.std.proofs.Common.{◌≡◌, ◌∙◌, ℕ, ◌+◌, ◌*◌, ◌^◌, ◌≤◌, ◌<◌, Bool, true, false, cond, not, List, [], ◌∷◌, Option, Some, None, map, refl, sym, ap, subst, inl, inr, arith, zero-add, add_comm, mul_comm}
-use Rattle.std.specs.Prelude.{◌⊎◌, ◌==◌, ◌&&◌, ◌||◌, if◌then◌else◌, nat_le, unwrap_or, sum, All}
-use Rattle.std.specs.declared.cmp.Ordering.{Ordering}
-use Rattle.std.specs.declared.cmp.Ordering.TheVariants.{Less, Equal, Greater}
-use Rattle.std.specs.Bool.{Decides}
-use Rattle.std.specs.BTreeMap.{is_at}
-use Rattle.std.specs.Cmp.{tied_itself}
-use Rattle.std.specs.List.{list_all, AllByRecursion}
-use Rattle.std.specs.List.Sorted.{IsStrictlySortedBy}
+use Rattle.std.proofs.Common.{◌≡◌, ◌∙◌, ℕ, ◌+◌, ◌*◌, ◌^◌, ◌≤◌, ◌<◌, Bool, true, false, cond, not, List, [], ◌∷◌, Option, Some, None, map, refl, sym, ap, subst, inl, inr, arith, zero-add, add_comm, mul_comm, ◌⊎◌, ◌==◌, ◌&&◌, ◌||◌, if◌then◌else◌, nat_le, unwrap_or, sum, All, Ordering, Less, Equal, Greater, Decides, is_eq, true≢false}
+use Rattle.std.specs.{BTreeMap.is_at, Cmp.tied_itself, List.{list_all, AllByRecursion, Sorted.IsStrictlySortedBy}}
 use Rattle.std.specs.Map.{keys_of, values_of, lookup}
-use Rattle.std.specs.Ordering.{is_eq}
-use Rattle.std.proofs.lemmas.Bool.{true≢false}
-use Rattle.std.proofs.lemmas.Bool.Decides.{nat_tests, Decides-and, Decides-eqb}
-use Rattle.std.proofs.lemmas.List.Elements.{recursion_from_All}
-use Rattle.std.proofs.lemmas.List.Sums.{sum_by-cons}
-use Rattle.std.proofs.lemmas.Map.Lookups.{exact_bytes}
-use Rattle.base_types.specs.declared.account.Account.{Account}
+use Rattle.std.proofs.lemmas.{Bool.Decides.{nat_tests, Decides-and, Decides-eqb}, List.Elements.recursion_from_All}
+use Rattle.std.proofs.lemmas.{List.Sums.sum_by-cons, Map.Lookups.exact_bytes}
+use Rattle.base_types.specs.declared.{account.Account.Account, status.BondStatus.BondStatus}
+use Rattle.base_types.{specs.Orders.{account_cmp, denom_cmp}, proofs.{MapLemmas.equal, OrderLemmas.account_exact}}
 use Rattle.base_types.specs.declared.account.Account.TheVariants as account
 use Rattle.base_types.specs.declared.account.Module.TheVariants as holder
-use Rattle.base_types.specs.declared.status.BondStatus.{BondStatus}
-use Rattle.base_types.specs.Orders.{account_cmp, denom_cmp}
-use Rattle.base_types.proofs.MapLemmas.{equal}
-use Rattle.base_types.proofs.OrderLemmas.{account_exact}
 use Rattle.base_coins.specs.Coins.{Money, IsMoney, amount_of}
 use Rattle.base_coins.proofs.Order.{Above, Rises, rises_from_money, by_order, same_name}
-use Rattle.base_roles.specs.declared.entities.Purse.{Purse}
-use Rattle.base_roles.specs.declared.entities.Validator.{Validator}
-use Rattle.base_roles.specs.Entries.{at, number_at}
-use Rattle.base_roles.specs.Holdings.{Balances, Holdings, IsBacked, balance_of, coins_of}
-use Rattle.base_roles.specs.Orders.{place_cmp}
+use Rattle.base_roles.specs.{declared.entities.{Purse.Purse, Validator.Validator}, Entries.{at, number_at}}
+use Rattle.base_roles.specs.{Holdings.{Balances, Holdings, IsBacked, balance_of, coins_of}, Orders.place_cmp}
 use Rattle.base_roles.specs.Staked.{Staked, is_bonded, tokens_where, bonded_tokens, other_tokens}
-use Rattle.base_roles.specs.StakeChanges.{of_bond}
-use Rattle.base_roles.specs.World.{View}
+use Rattle.base_roles.specs.{StakeChanges.of_bond, World.View}
 use Rattle.base_roles.proofs.HoldingLemmas.{denom_total, place_total, place_exact, account_total, balance-most}
-use Rattle.rule_modules.specs.Amounts.{bond_coins}
-use Rattle.rule_modules.specs.Distribution.{Shared}
+use Rattle.rule_modules.specs.{Amounts.bond_coins, Distribution.Shared}
 use Rattle.rule_modules.specs.Owed.{entry_balances, owed_from_not_bonded, owed_from_distribution, HoldsWhatIsOwed}
-use Rattle.rule_modules.specs.Purses.{Purses}
-use Rattle.rule_modules.specs.Sound.{PurseIsSound}
-use Rattle.rule_modules.specs.Unbondings.{UnbondingLists}
+use Rattle.rule_modules.specs.{Purses.Purses, Sound.PurseIsSound, Unbondings.UnbondingLists}
 use Rattle.rule_modules.proofs.EntryLemmas.{to_all, from_all}
 use Rattle.law_soundness.proofs.Points.{holds_coin, coin_held}
-use Rattle.store_records.specs.Plain.{PlainSeen, AreAscending}
-use Rattle.store_records.specs.States.{state_of}
+use Rattle.store_records.specs.{Plain.{PlainSeen, AreAscending}, States.state_of}
 use Rattle.store_soundness.specs.Accounts.{is_elsewhere_or, holds_just, not_bonded_in, holds_bonded, holds_not_bonded, holds_stake, units_in, outstanding_in, owed_in, is_held, are_held, is_elsewhere_or_held, holds_owed, holds_rewards}
 use Rattle.store_soundness.specs.Ranges.{are_backed}
-use Rattle.law_records.specs.Coins.{AreCoins}
-use Rattle.law_records.proofs.BackedLaws.{backed_decides}
-use Rattle.law_records.proofs.TestLemmas.{at_most, all_decides}
+use Rattle.law_records.{specs.Coins.AreCoins, proofs.{BackedLaws.backed_decides, TestLemmas.{at_most, all_decides}}}
 
 -- ---- tests of a list
 

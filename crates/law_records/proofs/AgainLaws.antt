@@ -1,28 +1,18 @@
 -- Records that pass the tests are those of their plain state.
-use Rattle.std.proofs.Common.{◌≡◌, ◌∙◌, ℕ, Bool, true, List, [], ◌∷◌, map, refl, sym, ap}
-use Rattle.std.specs.Prelude.{◌&&◌}
-use Rattle.std.specs.List.{flat_map}
+use Rattle.std.proofs.Common.{◌≡◌, ◌∙◌, ℕ, Bool, true, List, [], ◌∷◌, map, refl, sym, ap, ◌&&◌, flat_map}
 use Rattle.base_roles.specs.declared.entities.Historical.{Historical}
-use Rattle.rule_modules.specs.Chain.{shared_in, window_in}
-use Rattle.rule_modules.specs.Distribution.{Shared}
-use Rattle.rule_modules.specs.Sound.{RewardsAreSound}
-use Rattle.mod_periods.specs.Kept.{AreInOrder}
-use Rattle.mod_periods.specs.Stands.{KeepsRewards}
-use Rattle.store_records.specs.Plain.{SharedSeen, PlainSeen, AreAscending, listed}
-use Rattle.store_records.specs.States.{state_of, window_of}
+use Rattle.rule_modules.specs.{Chain.{shared_in, window_in}, Distribution.Shared, Sound.RewardsAreSound}
+use Rattle.mod_periods.specs.{Kept.AreInOrder, Stands.KeepsRewards}
+use Rattle.store_records.specs.{Plain.{SharedSeen, PlainSeen, AreAscending, listed}, States.{state_of, window_of}}
 use Rattle.store_soundness.specs.Ranges.{is_context_sound, are_backed, are_validators_sound, are_currents_in_range, are_few}
 use Rattle.store_soundness.specs.Signing.{are_recorded, are_signings_sound}
 use Rattle.store_soundness.specs.Entries.{are_unbondings_sound, are_redelegations_sound}
 use Rattle.store_soundness.specs.Sound.{are_values_sound, are_stakes_sound, are_rewards_sound, are_others_sound, is_sound}
-use Rattle.law_records.specs.Again.{RecordsAreThoseOfState, SigningsAreThoseOfVotes}
-use Rattle.law_records.specs.Coins.{AreCoins}
-use Rattle.law_records.specs.HistoryLaws.{AreRewardsTested, kept_rewards}
-use Rattle.law_records.specs.Records.{plain_of, shared_of, signed_in}
+use Rattle.law_records.specs.{Again.{RecordsAreThoseOfState, SigningsAreThoseOfVotes}, Coins.AreCoins}
+use Rattle.law_records.specs.{HistoryLaws.{AreRewardsTested, kept_rewards}, Records.{plain_of, shared_of, signed_in}}
 use Rattle.law_records.proofs.HistoryLaws.{are_rewards_sound_by_tests, are_rewards_kept_by_tests}
-use Rattle.law_records.proofs.OperatorLemmas.{first_true, second_true}
-use Rattle.law_records.proofs.RecordLaws.{items_are_listed}
-use Rattle.law_records.proofs.RewardLists.{currents_kept, histories_kept, slashes_kept}
-use Rattle.law_records.proofs.RingLaws.{signings_kept}
+use Rattle.law_records.proofs.{OperatorLemmas.{first_true, second_true}, RecordLaws.items_are_listed}
+use Rattle.law_records.proofs.{RewardLists.{currents_kept, histories_kept, slashes_kept}, RingLaws.signings_kept}
 
 -- ---- what is told by all tests
 

@@ -1,26 +1,14 @@
 -- Records that are gathered have ascending keys, and validators stand under their operators.
-use Rattle.std.proofs.Common.{◌≡◌, ◌∙◌, ℕ, Bool, true, false, List, [], ◌∷◌, Option, Some, None, refl, sym, ap}
-use Rattle.std.specs.Prelude.{All, IfSome, option_map}
-use Rattle.std.specs.declared.cmp.Ordering.{Ordering}
-use Rattle.std.specs.declared.cmp.Ordering.TheVariants.{Less, Equal, Greater}
-use Rattle.std.specs.BTreeMap.{insert_entry}
-use Rattle.std.specs.Cmp.{IsTotalOrder}
-use Rattle.std.specs.List.{AllByRecursion}
-use Rattle.std.specs.List.Sorted.{IsStrictlySortedBy}
-use Rattle.std.specs.Map.{keys_of}
-use Rattle.std.specs.Ordering.{match_ordering, nat_cmp, ordering_then}
-use Rattle.std.proofs.lemmas.List.Elements.{All-from_recursion, recursion_from_All}
-use Rattle.std.proofs.lemmas.Map.Lookups.{exact_bytes}
-use Rattle.base_types.specs.Orders.{addr_cmp, cons_cmp, denom_cmp}
-use Rattle.base_types.proofs.MapLemmas.{ascend-put}
-use Rattle.base_roles.specs.declared.entities.Validator.{Validator}
-use Rattle.base_roles.specs.declared.items.Item.{Item}
+use Rattle.std.proofs.Common.{◌≡◌, ◌∙◌, ℕ, Bool, true, false, List, [], ◌∷◌, Option, Some, None, refl, sym, ap, All, IfSome, option_map, Ordering, Less, Equal, Greater, nat_cmp}
+use Rattle.std.specs.{BTreeMap.insert_entry, Cmp.IsTotalOrder, List.{AllByRecursion, Sorted.IsStrictlySortedBy}}
+use Rattle.std.specs.{Map.keys_of, Ordering.{match_ordering, ordering_then}}
+use Rattle.std.proofs.lemmas.{List.Elements.{All-from_recursion, recursion_from_All}, Map.Lookups.exact_bytes}
+use Rattle.base_types.{specs.Orders.{addr_cmp, cons_cmp, denom_cmp}, proofs.MapLemmas.ascend-put}
+use Rattle.base_roles.specs.declared.{entities.Validator.Validator, items.Item.Item, params.Params.Params}
+use Rattle.base_roles.specs.{Entries.{at, with}, Orders.{pair_cmp, place_cmp, triple_cmp}}
+use Rattle.base_roles.proofs.HoldingLemmas.{denom_total, place_total}
 use Rattle.base_roles.specs.declared.items.Item.TheVariants as item
 use Rattle.base_coins.specs.Coins.{Money}
-use Rattle.base_roles.specs.declared.params.Params.{Params}
-use Rattle.base_roles.specs.Entries.{at, with}
-use Rattle.base_roles.specs.Orders.{pair_cmp, place_cmp, triple_cmp}
-use Rattle.base_roles.proofs.HoldingLemmas.{denom_total, place_total}
 use Rattle.rule_modules.proofs.OrderLemmas.{addr_total, cons_total, pair_total}
 use Rattle.store_records.specs.Gathering.{Gathered, new_or, with_new, once, shared_with, lists_with, gathered_with, also, gathered, nothing_gathered, all_of, whole, records_in}
 use Rattle.store_records.specs.Plain.{SharedSeen, ListsSeen, PlainSeen, IsSharedAscending, AreAscending, period_cmp, event_cmp, no_lists}

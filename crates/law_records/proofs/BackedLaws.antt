@@ -1,24 +1,14 @@
 -- The tests of the ground decide that it is in order.
-use Rattle.std.proofs.Common.{◌≡◌, ◌∙◌, ℕ, ◌+◌, ◌^◌, ◌≤◌, ◌<◌, Bool, true, false, cond, List, [], ◌∷◌, Option, Some, None, refl, sym, ap, subst, arith}
-use Rattle.std.specs.Prelude.{◌==◌, ◌&&◌, nat_le, nat_lt, is_some, unwrap_or, All}
-use Rattle.std.specs.Bool.{Decides}
-use Rattle.std.specs.BTreeMap.{is_at}
-use Rattle.std.specs.List.{list_all}
-use Rattle.std.specs.List.Sorted.{IsStrictlySortedBy}
-use Rattle.std.specs.Map.{keys_of, lookup}
-use Rattle.std.specs.declared.cmp.Ordering.TheVariants.{Equal}
-use Rattle.std.proofs.lemmas.Bool.Decides.{nat_tests, Decides-and, Decides-eqb}
-use Rattle.std.proofs.lemmas.Bool.{true≢false}
-use Rattle.std.proofs.lemmas.Map.Lookups.{exact_bytes}
-use Rattle.base_types.specs.declared.account.Account.{Account}
-use Rattle.base_types.specs.Orders.{denom_cmp}
+use Rattle.std.proofs.Common.{◌≡◌, ◌∙◌, ℕ, ◌+◌, ◌^◌, ◌≤◌, ◌<◌, Bool, true, false, cond, List, [], ◌∷◌, Option, Some, None, refl, sym, ap, subst, arith, ◌==◌, ◌&&◌, nat_le, nat_lt, is_some, unwrap_or, All, Decides, Equal, true≢false}
+use Rattle.std.specs.{BTreeMap.is_at, List.{list_all, Sorted.IsStrictlySortedBy}, Map.{keys_of, lookup}}
+use Rattle.std.proofs.lemmas.{Bool.Decides.{nat_tests, Decides-and, Decides-eqb}, Map.Lookups.exact_bytes}
+use Rattle.base_types.specs.{declared.account.Account.Account, Orders.denom_cmp}
 use Rattle.base_coins.specs.Coins.{Money, amount_of}
 use Rattle.base_roles.specs.Entries.{at, sum_where}
-use Rattle.base_roles.specs.Holdings.{Balances, Holdings, IsBacked, balance_of, supply_of, total_of}
-use Rattle.base_roles.specs.Orders.{place_cmp}
+use Rattle.base_roles.specs.{Holdings.{Balances, Holdings, IsBacked, balance_of, supply_of, total_of}, Orders.place_cmp}
+use Rattle.base_roles.specs.Ranges.{is_within}
 use Rattle.base_roles.proofs.HoldingLemmas.{denom_total, place_total, place_exact, balance-within}
 use Rattle.rule_modules.proofs.EntryLemmas.{to_all, from_all}
-use Rattle.base_roles.specs.Ranges.{is_within}
 use Rattle.store_soundness.specs.Ranges.{balances_of, is_supply_sound, are_supplies_sound, is_balance_sound, are_balances_sound, are_backed}
 use Rattle.store_soundness.proofs.TallyLemmas.{lookup_alike}
 use Rattle.law_records.proofs.TestLemmas.{at_most, below, within, all_decides}

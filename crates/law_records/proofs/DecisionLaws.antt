@@ -1,20 +1,13 @@
 -- What the tests decide, point by point.
-use Rattle.std.proofs.Common.{◌≡◌, Bool, true, List}
-use Rattle.std.specs.Prelude.{◌&&◌, All}
-use Rattle.std.specs.Bool.{Decides}
+use Rattle.std.proofs.Common.{◌≡◌, Bool, true, List, ◌&&◌, All, Decides}
 use Rattle.std.proofs.lemmas.Bool.Decides.{Decides-and}
 use Rattle.store_soundness.specs.Entries.{are_unbondings_sound, are_redelegations_sound}
-use Rattle.law_records.specs.Laws.{RecordsAscend, GroundIsDecided, FewIsDecided, StakedIsDecided, AccountsAreDecided, ValidatorsAreDecided, StandingIsDecided, EntriesAreDecided, RecordingIsDecided, SigningIsSoundByTests}
 use Rattle.store_soundness.specs.Ranges.{is_context_sound, are_backed}
-use Rattle.law_records.proofs.AccountLaws.{accounts_decide}
-use Rattle.law_records.proofs.AscendLaws.{records_ascend}
-use Rattle.law_records.proofs.BackedLaws.{backed_decides}
-use Rattle.law_records.proofs.EntryLaws.{unbondings_decide, redelegations_decide}
-use Rattle.law_records.proofs.FewLaws.{few_decides}
-use Rattle.law_records.proofs.RangeLaws.{context_decides, validators_decide}
-use Rattle.law_records.proofs.ShareLaws.{staked_decide}
-use Rattle.law_records.proofs.SigningLaws.{recorded_decides, window_sound}
-use Rattle.law_records.proofs.StandLaws.{stands_decide}
+use Rattle.law_records.specs.Laws.{RecordsAscend, GroundIsDecided, FewIsDecided, StakedIsDecided, AccountsAreDecided, ValidatorsAreDecided, StandingIsDecided, EntriesAreDecided, RecordingIsDecided, SigningIsSoundByTests}
+use Rattle.law_records.proofs.{AccountLaws.accounts_decide, AscendLaws.records_ascend, BackedLaws.backed_decides}
+use Rattle.law_records.proofs.{EntryLaws.{unbondings_decide, redelegations_decide}, FewLaws.few_decides}
+use Rattle.law_records.proofs.{RangeLaws.{context_decides, validators_decide}, ShareLaws.staked_decide}
+use Rattle.law_records.proofs.{SigningLaws.{recorded_decides, window_sound}, StandLaws.stands_decide}
 
 pub all_ascend : RecordsAscend
 all_ascend items = records_ascend items

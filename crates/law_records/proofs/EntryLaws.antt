@@ -1,19 +1,12 @@
 -- The tests of entries decide that they are sound.
-use Rattle.std.proofs.Common.{◌≡◌, ℕ, ◌^◌, ◌≤◌, ◌<◌, Bool, true, List, length, arith}
-use Rattle.std.specs.Prelude.{◌&&◌, nat_le, All}
-use Rattle.std.specs.Bool.{Decides}
-use Rattle.std.specs.List.{list_all}
-use Rattle.std.specs.List.Sorted.{IsStrictlySortedBy}
-use Rattle.std.specs.Map.{keys_of}
-use Rattle.std.proofs.lemmas.Bool.Decides.{nat_tests, Decides-and, Decides-like}
-use Rattle.std.proofs.lemmas.List.Elements.{All-weaker}
-use Rattle.base_roles.specs.declared.entities.RedelegationEntry.{RedelegationEntry}
-use Rattle.base_roles.specs.declared.entities.UnbondingEntry.{UnbondingEntry}
-use Rattle.base_roles.specs.Orders.{pair_cmp, triple_cmp}
+use Rattle.std.proofs.Common.{◌≡◌, ℕ, ◌^◌, ◌≤◌, ◌<◌, Bool, true, List, length, arith, ◌&&◌, nat_le, All, Decides}
+use Rattle.std.specs.{List.{list_all, Sorted.IsStrictlySortedBy}, Map.keys_of}
+use Rattle.std.proofs.lemmas.{Bool.Decides.{nat_tests, Decides-and, Decides-like}, List.Elements.All-weaker}
+use Rattle.base_roles.specs.declared.entities.{RedelegationEntry.RedelegationEntry, UnbondingEntry.UnbondingEntry}
+use Rattle.base_roles.specs.{Orders.{pair_cmp, triple_cmp}, Ranges.is_within}
 use Rattle.rule_modules.specs.Redelegations.{RedelegationLists}
 use Rattle.rule_modules.specs.Sound.{UnbondingIsSound, UnbondingsAreSound, RedelegationIsSound, RedelegationsAreSound}
 use Rattle.rule_modules.specs.Unbondings.{UnbondingLists}
-use Rattle.base_roles.specs.Ranges.{is_within}
 use Rattle.store_soundness.specs.Entries.{is_unbonding_sound, is_unbonding_list, are_unbondings_sound, is_redelegation_sound, is_redelegation_list, are_redelegations_sound}
 use Rattle.law_records.proofs.TestLemmas.{at_most, within, all_decides}
 

@@ -1,19 +1,9 @@
 -- The tests of slash events tell that they are sound, operator by operator.
-use Rattle.std.proofs.Common.{◌≡◌, ◌∙◌, ℕ, ◌^◌, ◌<◌, ◌≤◌, Bool, true, false, cond, List, [], ◌∷◌, Option, Some, map, refl, sym, ap, subst, arith, inl, inr}
-use Rattle.std.specs.Prelude.{◌&&◌, ◌||◌, ◌⊎◌, filter, not, nat_le, nat_lt}
-use Rattle.std.specs.declared.cmp.Ordering.{Ordering}
-use Rattle.std.specs.declared.cmp.Ordering.TheVariants.{Less, Equal, Greater}
-use Rattle.std.specs.Ordering.{nat_cmp, ordering_then}
-use Rattle.std.specs.List.{AllByRecursion}
-use Rattle.std.specs.List.Sorted.{IsStrictlySortedBy}
-use Rattle.std.specs.Map.{keys_of}
-use Rattle.std.proofs.lemmas.Bool.{true≢false}
-use Rattle.std.proofs.lemmas.Bool.Decides.{nat_tests}
-use Rattle.std.proofs.lemmas.Map.Lookups.{exact_bytes}
+use Rattle.std.proofs.Common.{◌≡◌, ◌∙◌, ℕ, ◌^◌, ◌<◌, ◌≤◌, Bool, true, false, cond, List, [], ◌∷◌, Option, Some, map, refl, sym, ap, subst, arith, inl, inr, ◌&&◌, ◌||◌, ◌⊎◌, filter, not, nat_le, nat_lt, Ordering, Less, Equal, Greater, nat_cmp, true≢false}
+use Rattle.std.specs.{Ordering.ordering_then, List.{AllByRecursion, Sorted.IsStrictlySortedBy}, Map.keys_of}
+use Rattle.std.proofs.lemmas.{Bool.Decides.nat_tests, Map.Lookups.exact_bytes}
 use Rattle.base_types.specs.Orders.{addr_cmp}
-use Rattle.base_roles.specs.declared.entities.SlashEvent.{SlashEvent}
-use Rattle.base_roles.specs.declared.entities.StartingInfo.{StartingInfo}
-use Rattle.base_roles.specs.Entries.{at}
+use Rattle.base_roles.specs.{declared.entities.{SlashEvent.SlashEvent, StartingInfo.StartingInfo}, Entries.at}
 use Rattle.base_roles.specs.Orders.{same_addr}
 use Rattle.rule_modules.specs.Sound.{EventIsSound, GrowWithHeight, StartIsSound}
 use Rattle.rule_modules.proofs.OrderLemmas.{addr_total, same_back, same_is, same_itself}

@@ -1,40 +1,23 @@
 -- The test of denominations keeps each name once, and so decides how many are named.
-use Rattle.std.proofs.Common.{◌≡◌, ◌∙◌, ℕ, ◌≤◌, Bool, true, false, cond, List, [], ◌∷◌, ◌++◌, Option, Some, None, map, length, refl, sym, ap}
-use Rattle.std.specs.Prelude.{◌&&◌, ◌||◌, nat_le, is_some, filter, reverse, All, Contains, IsSome}
-use Rattle.std.specs.declared.cmp.Ordering.{Ordering}
-use Rattle.std.specs.declared.cmp.Ordering.TheVariants.{Less, Equal, Greater}
-use Rattle.std.specs.Bool.{Decides}
-use Rattle.std.specs.BTreeMap.{is_at}
-use Rattle.std.specs.BTreeSet.{insert_key}
-use Rattle.std.specs.Cmp.{eq_by_cmp_equiv}
-use Rattle.std.specs.List.{list_any, AllByRecursion}
-use Rattle.std.specs.List.Sorted.{IsStrictlySortedBy}
-use Rattle.std.specs.Map.{keys_of, values_of}
-use Rattle.std.specs.Ordering.{match_ordering, ordering_reverse}
-use Rattle.std.proofs.lemmas.List.{reverse-append}
+use Rattle.std.proofs.Common.{◌≡◌, ◌∙◌, ℕ, ◌≤◌, Bool, true, false, cond, List, [], ◌∷◌, ◌++◌, Option, Some, None, map, length, refl, sym, ap, ◌&&◌, ◌||◌, nat_le, is_some, filter, reverse, All, Contains, IsSome, Ordering, Less, Equal, Greater, Decides}
+use Rattle.std.specs.{BTreeMap.is_at, BTreeSet.insert_key, Cmp.eq_by_cmp_equiv, List.{list_any, AllByRecursion}}
+use Rattle.std.specs.{List.Sorted.IsStrictlySortedBy, Map.{keys_of, values_of}}
+use Rattle.std.{specs.Ordering.{match_ordering, ordering_reverse}, proofs.lemmas.List.reverse-append}
 use Rattle.std.proofs.lemmas.List.Elements.{All-contains, All-from_recursion, recursion_from_All}
-use Rattle.std.proofs.lemmas.List.Folds.{list_any-append}
-use Rattle.std.proofs.lemmas.Map.Keys.{IsDistinct-from_sorted}
-use Rattle.std.proofs.lemmas.Map.Lookups.{exact_bytes}
+use Rattle.std.proofs.lemmas.{List.Folds.list_any-append, Map.{Keys.IsDistinct-from_sorted, Lookups.exact_bytes}}
 use Rattle.std.proofs.lemmas.Map.Made.{length-le_from_is_member, is_some-lookup}
 use Rattle.std.proofs.lemmas.Map.Views.{All-insert_key, All-from_any, Contains-from_any, list_any-from_Contains}
 use Rattle.std.proofs.Math.Nat.{le_trans}
-use Rattle.base_types.specs.declared.account.Account.{Account}
-use Rattle.base_types.specs.Orders.{addr_cmp, denom_cmp}
+use Rattle.base_types.specs.{declared.account.Account.Account, Orders.{addr_cmp, denom_cmp}}
 use Rattle.base_types.proofs.MapLemmas.{all-below, equal}
 use Rattle.base_coins.specs.Coins.{Money}
-use Rattle.base_roles.specs.declared.entities.Historical.{Historical}
-use Rattle.base_roles.specs.declared.entities.Purse.{Purse}
-use Rattle.base_roles.specs.Entries.{at}
-use Rattle.base_roles.specs.Orders.{same_addr}
+use Rattle.base_roles.specs.{declared.entities.{Historical.Historical, Purse.Purse}, Entries.at, Orders.same_addr}
 use Rattle.base_roles.proofs.HoldingLemmas.{denom_total}
 use Rattle.rule_modules.specs.Periods.{Periods}
 use Rattle.rule_modules.specs.Sound.{names_in, names_of_purses, names_of_ratios, names_of_periods, denominations_of, AreAtMost}
-use Rattle.store_records.specs.Plain.{SharedSeen, PlainSeen}
-use Rattle.store_records.specs.States.{ratios_of, periods_in, state_of}
+use Rattle.store_records.specs.{Plain.{SharedSeen, PlainSeen}, States.{ratios_of, periods_in, state_of}}
 use Rattle.store_soundness.specs.Ranges.{with_names, with_purse_names, with_purses, with_ratios, names_of, are_few}
-use Rattle.law_records.specs.Laws.{HistoriesBelong}
-use Rattle.law_records.proofs.TestLemmas.{at_most}
+use Rattle.law_records.{specs.Laws.HistoriesBelong, proofs.TestLemmas.at_most}
 
 -- ---- a name among names
 

@@ -1,28 +1,17 @@
 -- The plain state of a sound state's records has no more denominations than the state.
-use Rattle.std.proofs.Common.{◌≡◌, ℕ, Bool, true, false, List, [], ◌∷◌, ◌++◌, Some, map, sym, subst}
-use Rattle.std.specs.Prelude.{nat_le, is_some, if◌then◌else◌, Contains}
-use Rattle.std.specs.List.{AllByRecursion}
-use Rattle.std.specs.Map.{values_of}
-use Rattle.std.proofs.lemmas.List.Elements.{All-from_recursion, recursion_from_All}
-use Rattle.std.proofs.lemmas.Map.Lookups.{exact_bytes}
+use Rattle.std.proofs.Common.{◌≡◌, ℕ, Bool, true, false, List, [], ◌∷◌, ◌++◌, Some, map, sym, subst, nat_le, is_some, if◌then◌else◌, Contains}
+use Rattle.std.specs.{List.AllByRecursion, Map.values_of}
+use Rattle.std.proofs.lemmas.{List.Elements.{All-from_recursion, recursion_from_All}, Map.Lookups.exact_bytes}
 use Rattle.base_types.specs.Orders.{addr_cmp}
 use Rattle.base_coins.specs.Coins.{Money}
-use Rattle.base_roles.specs.declared.entities.Historical.{Historical}
-use Rattle.base_roles.specs.Entries.{at}
-use Rattle.base_roles.specs.Orders.{same_addr}
-use Rattle.rule_modules.specs.Chain.{State, shared_in}
-use Rattle.rule_modules.specs.Distribution.{Shared}
-use Rattle.rule_modules.specs.Periods.{Periods, ratio_at, start_of}
+use Rattle.base_roles.specs.{declared.entities.Historical.Historical, Entries.at, Orders.same_addr}
+use Rattle.rule_modules.specs.{Chain.{State, shared_in}, Distribution.Shared, Periods.{Periods, ratio_at, start_of}}
 use Rattle.rule_modules.specs.Sound.{AreAtMost, RewardsAreSound, denominations_of, names_in, names_of_periods, names_of_purses, names_of_ratios}
-use Rattle.rule_modules.proofs.EntryLemmas.{from_all, to_all}
-use Rattle.rule_modules.proofs.OrderLemmas.{addr_total}
+use Rattle.rule_modules.proofs.{EntryLemmas.{from_all, to_all}, OrderLemmas.addr_total}
 use Rattle.mod_periods.proofs.OrderLemmas.{period_total}
-use Rattle.store_records.specs.Plain.{SharedSeen, period_cmp}
-use Rattle.store_records.specs.States.{periods_in, ratios_of, state_of}
-use Rattle.law_records.specs.Records.{plain_of, shared_of}
-use Rattle.law_records.proofs.RatioLaws.{all_turned, rows_all, rows_in}
-use Rattle.law_records.proofs.RewardLists.{histories_ascend}
-use Rattle.law_records.proofs.RewardPass.{record_there}
+use Rattle.store_records.specs.{Plain.{SharedSeen, period_cmp}, States.{periods_in, ratios_of, state_of}}
+use Rattle.law_records.{specs.Records.{plain_of, shared_of}, proofs.RatioLaws.{all_turned, rows_all, rows_in}}
+use Rattle.law_records.proofs.{RewardLists.histories_ascend, RewardPass.record_there}
 
 module _ (P : List ℕ → Type 0) where
   abbrev Each : List (List ℕ) → Type 0

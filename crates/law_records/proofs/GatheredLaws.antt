@@ -1,19 +1,13 @@
 -- The items of a sound state, in whatever order they come, are gathered as its records.
-use Rattle.std.proofs.Common.{◌≡◌, List, Option, Some, None, ap, subst}
-use Rattle.std.specs.Prelude.{IfSome, IsSome}
-use Rattle.std.specs.List.Sorted.{IsPermutation}
+use Rattle.std.proofs.Common.{◌≡◌, List, Option, Some, None, ap, subst, IfSome, IsSome, IsPermutation}
 use Rattle.std.proofs.lemmas.List.Sorted.{Contains-permutation, IsPermutation-sym}
 use Rattle.base_roles.specs.declared.items.Item.{Item}
 use Rattle.base_records.proofs.MemberLemmas.{Member, contained, member}
-use Rattle.rule_modules.specs.Chain.{State}
-use Rattle.rule_modules.specs.Sound.{IsSound}
+use Rattle.rule_modules.specs.{Chain.State, Sound.IsSound}
 use Rattle.rule_machine.specs.Items.{items_of}
-use Rattle.store_records.specs.Gathering.{records_in}
-use Rattle.store_records.specs.Plain.{PlainSeen, AreAscending, listed}
+use Rattle.store_records.specs.{Gathering.records_in, Plain.{PlainSeen, AreAscending, listed}}
 use Rattle.store_records.proofs.ListedLemmas.{same_records}
-use Rattle.law_records.specs.Listed.{StatesAreGathered}
-use Rattle.law_records.specs.Records.{plain_of}
-use Rattle.law_records.proofs.AscendLaws.{records_ascend}
+use Rattle.law_records.{specs.{Listed.StatesAreGathered, Records.plain_of}, proofs.AscendLaws.records_ascend}
 use Rattle.law_records.proofs.ListedLaws.{listed_gathered, records_listed}
 use Rattle.law_records.proofs.RecordLaws.{items_are_listed, plain_ascends}
 

@@ -1,17 +1,9 @@
 -- Entries in groups, one for each operator: their keys ascend, and what is found under a key.
-use Rattle.std.proofs.Common.{◌≡◌, ◌∙◌, ℕ, Bool, true, false, cond, List, [], ◌∷◌, ◌++◌, Option, Some, None, option_map, refl, sym, ap, subst}
-use Rattle.std.specs.declared.cmp.Ordering.{Ordering}
-use Rattle.std.specs.declared.cmp.Ordering.TheVariants.{Less, Equal}
-use Rattle.std.specs.Ordering.{is_eq}
-use Rattle.std.specs.Cmp.{IsTotalOrder}
-use Rattle.std.specs.BTreeMap.{is_at}
-use Rattle.std.specs.List.{AllByRecursion, flat_map}
-use Rattle.std.specs.List.Sorted.{IsStrictlySortedBy}
+use Rattle.std.proofs.Common.{◌≡◌, ◌∙◌, ℕ, Bool, true, false, cond, List, [], ◌∷◌, ◌++◌, Option, Some, None, option_map, refl, sym, ap, subst, Ordering, Less, Equal, is_eq, flat_map}
+use Rattle.std.specs.{Cmp.IsTotalOrder, BTreeMap.is_at, List.{AllByRecursion, Sorted.IsStrictlySortedBy}}
 use Rattle.std.specs.Map.{keys_of, lookup_entry}
-use Rattle.base_types.specs.Orders.{addr_cmp}
-use Rattle.base_types.proofs.MapLemmas.{equal}
-use Rattle.base_roles.specs.Entries.{at}
-use Rattle.base_roles.specs.Orders.{same_addr}
+use Rattle.base_types.{specs.Orders.addr_cmp, proofs.MapLemmas.equal}
+use Rattle.base_roles.specs.{Entries.at, Orders.same_addr}
 use Rattle.rule_modules.proofs.OrderLemmas.{same_is}
 use Rattle.base_table.proofs.EntryLemmas.{same_entries}
 

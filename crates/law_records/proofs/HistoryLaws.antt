@@ -1,29 +1,18 @@
 -- The tests of distribution tell that the periods of its plain state are sound, and that the lists are what is kept of them.
-use Rattle.std.proofs.Common.{◌≡◌, ◌∙◌, ℕ, ◌+◌, ◌-◌, ◌^◌, ◌<◌, ◌≤◌, Bool, true, false, cond, List, [], ◌∷◌, Option, Some, None, option_map, map, refl, sym, ap, subst, arith, inl, inr}
-use Rattle.std.specs.Prelude.{◌==◌, ◌&&◌, ◌⊎◌, ◌≢◌, filter, nat_lt, nat_le, is_some, unwrap_or, All}
-use Rattle.std.specs.Bool.{Decides}
-use Rattle.std.specs.List.{AllByRecursion, list_all}
-use Rattle.std.specs.List.Sorted.{IsStrictlySortedBy}
-use Rattle.std.specs.Map.{keys_of}
-use Rattle.std.proofs.lemmas.Bool.{cases_lt, true≢false}
-use Rattle.std.proofs.lemmas.Bool.Decides.{Decides-and, Decides-eqb}
+use Rattle.std.proofs.Common.{◌≡◌, ◌∙◌, ℕ, ◌+◌, ◌-◌, ◌^◌, ◌<◌, ◌≤◌, Bool, true, false, cond, List, [], ◌∷◌, Option, Some, None, option_map, map, refl, sym, ap, subst, arith, inl, inr, ◌==◌, ◌&&◌, ◌⊎◌, ◌≢◌, filter, nat_lt, nat_le, is_some, unwrap_or, All, Decides, true≢false}
+use Rattle.std.specs.{List.{AllByRecursion, list_all, Sorted.IsStrictlySortedBy}, Map.keys_of}
+use Rattle.std.proofs.lemmas.Bool.{cases_lt, Decides.{Decides-and, Decides-eqb}}
 use Rattle.std.proofs.lemmas.List.Elements.{All-from_recursion, All-map, All-weaker, recursion_from_All}
 use Rattle.std.proofs.lemmas.Map.Lookups.{exact_bytes}
 use Rattle.base_types.specs.Orders.{addr_cmp}
 use Rattle.base_coins.specs.Coins.{Money, IsMoney}
-use Rattle.base_roles.specs.declared.entities.Historical.{Historical}
-use Rattle.base_roles.specs.declared.entities.SlashEvent.{SlashEvent}
-use Rattle.base_roles.specs.declared.entities.StartingInfo.{StartingInfo}
-use Rattle.base_roles.specs.Entries.{at}
-use Rattle.base_roles.specs.Orders.{pair_cmp, same_addr}
+use Rattle.base_roles.specs.declared.entities.{Historical.Historical, SlashEvent.SlashEvent, StartingInfo.StartingInfo}
+use Rattle.base_roles.specs.{Entries.at, Orders.{pair_cmp, same_addr}, Ranges.is_within}
 use Rattle.rule_modules.specs.Periods.{Periods, history_kept, initial_records, periods_of, ratio_at, references_of, start_of, starts_of}
 use Rattle.rule_modules.specs.Sound.{EventIsSound, PeriodsAreSound, RewardsAreSound, StartIsSound}
-use Rattle.rule_modules.proofs.EntryLemmas.{from_all, to_all}
-use Rattle.rule_modules.proofs.OrderLemmas.{addr_total, pair_total, same_is}
+use Rattle.rule_modules.proofs.{EntryLemmas.{from_all, to_all}, OrderLemmas.{addr_total, pair_total, same_is}}
 use Rattle.rule_modules.proofs.SoundLemmas.{exact_pair}
-use Rattle.base_roles.specs.Ranges.{is_within}
-use Rattle.mod_periods.specs.Stands.{KeepsRewards, history_of}
-use Rattle.mod_periods.proofs.OrderLemmas.{period_total}
+use Rattle.mod_periods.{specs.Stands.{KeepsRewards, history_of}, proofs.OrderLemmas.period_total}
 use Rattle.mod_periods.proofs.RecordLemmas.{counted, counted-some}
 use Rattle.store_records.specs.Plain.{SharedSeen, PlainSeen, IsSharedAscending, event_at, period_cmp}
 use Rattle.store_records.specs.States.{periods_in, rewards_of}
@@ -36,8 +25,7 @@ use Rattle.law_records.proofs.EventLaws.{each_event, each_start, in_order, own_e
 use Rattle.law_records.proofs.OperatorLemmas.{first_true, second_true, are_single, none_refers, none_slashed, references_told, refers_stands}
 use Rattle.law_records.proofs.PeriodLemmas.{none_unended, rewards_sound_too}
 use Rattle.law_records.proofs.RatioLaws.{all_turned, falls, ratio_found, ratio_stands, ratio_told, ratios_rise, rows_all, rows_in, rows_rise}
-use Rattle.law_records.proofs.RewardLists.{period_exact}
-use Rattle.law_records.proofs.TestLemmas.{all_decides, below, within}
+use Rattle.law_records.proofs.{RewardLists.period_exact, TestLemmas.{all_decides, below, within}}
 
 running_keys : (s : SharedSeen) (es : List (List ℕ × ℕ)) → keys_of (map (λ (e : List ℕ × ℕ). (e.0, periods_in s e.0 e.1)) es) ≡ keys_of es
 running_keys s [] = refl

@@ -1,26 +1,14 @@
 -- The records of sound rewards stand for them.
-use Rattle.std.proofs.Common.{◌≡◌, ◌∙◌, ℕ, Bool, true, false, cond, List, [], ◌∷◌, ◌++◌, Some, map, refl, sym, ap, subst}
-use Rattle.std.specs.Prelude.{filter, is_some, unwrap_or}
-use Rattle.std.specs.declared.cmp.Ordering.TheVariants.{Less}
-use Rattle.std.specs.Ordering.{is_eq}
-use Rattle.std.specs.List.{AllByRecursion, flat_map}
-use Rattle.std.specs.List.Sorted.{IsStrictlySortedBy}
-use Rattle.std.specs.Map.{keys_of}
+use Rattle.std.proofs.Common.{◌≡◌, ◌∙◌, ℕ, Bool, true, false, cond, List, [], ◌∷◌, ◌++◌, Some, map, refl, sym, ap, subst, filter, is_some, unwrap_or, Less, is_eq, flat_map}
+use Rattle.std.specs.{List.{AllByRecursion, Sorted.IsStrictlySortedBy}, Map.keys_of}
 use Rattle.base_types.specs.Orders.{addr_cmp}
-use Rattle.base_roles.specs.declared.entities.SlashEvent.{SlashEvent}
-use Rattle.base_roles.specs.Entries.{at}
-use Rattle.base_roles.specs.Orders.{same_addr}
-use Rattle.rule_modules.specs.Distribution.{Shared}
-use Rattle.rule_modules.specs.Periods.{Periods, initial_records, start_of}
-use Rattle.rule_modules.specs.Sound.{RewardsAreSound}
+use Rattle.base_roles.specs.{declared.entities.SlashEvent.SlashEvent, Entries.at, Orders.same_addr}
+use Rattle.rule_modules.specs.{Distribution.Shared, Periods.{Periods, initial_records, start_of}, Sound.RewardsAreSound}
 use Rattle.rule_modules.proofs.OrderLemmas.{same_back, same_is}
 use Rattle.mod_periods.specs.Stands.{KeepsRewards}
 use Rattle.store_records.specs.Plain.{event_at}
-use Rattle.law_records.specs.HistoryLaws.{kept_rewards}
-use Rattle.law_records.specs.Records.{events_in, shared_of}
-use Rattle.law_records.proofs.EventLaws.{own_events}
-use Rattle.law_records.proofs.PeriodLemmas.{rewards_sound_too}
-use Rattle.law_records.proofs.RewardLists.{current_at, events_at, history_found}
+use Rattle.law_records.{specs.{HistoryLaws.kept_rewards, Records.{events_in, shared_of}}, proofs.EventLaws.own_events}
+use Rattle.law_records.proofs.{PeriodLemmas.rewards_sound_too, RewardLists.{current_at, events_at, history_found}}
 
 -- ---- the slash events of an operator among all
 

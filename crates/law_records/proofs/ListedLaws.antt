@@ -1,33 +1,18 @@
 -- Records that are gathered list just the items, in another order; and an item is refused only where one of its key stands.
-use Rattle.std.proofs.Common.{subst, ◌≡◌, ◌∙◌, ℕ, ◌≤◌, Bool, true, false, cond, List, [], ◌∷◌, ◌++◌, Option, Some, None, map, refl, sym, ap, inl, inr, arith}
-use Rattle.std.specs.Prelude.{◌⊎◌, IfSome, IsSome, option_map, unwrap_or, is_some}
-use Rattle.std.specs.declared.cmp.Ordering.{Ordering}
-use Rattle.std.specs.declared.cmp.Ordering.TheVariants.{Less, Equal, Greater}
-use Rattle.std.specs.BTreeMap.{insert_entry, is_at}
-use Rattle.std.specs.List.{AllByRecursion}
-use Rattle.std.specs.List.Sorted.{IsPermutation}
-use Rattle.std.specs.Ordering.{is_eq, match_ordering}
-use Rattle.std.proofs.lemmas.List.{append-nil}
+use Rattle.std.proofs.Common.{subst, ◌≡◌, ◌∙◌, ℕ, ◌≤◌, Bool, true, false, cond, List, [], ◌∷◌, ◌++◌, Option, Some, None, map, refl, sym, ap, inl, inr, arith, ◌⊎◌, IfSome, IsSome, option_map, unwrap_or, is_some, Ordering, Less, Equal, Greater, IsPermutation, is_eq, append-nil}
+use Rattle.std.specs.{BTreeMap.{insert_entry, is_at}, List.AllByRecursion, Ordering.match_ordering}
 use Rattle.std.proofs.lemmas.List.Elements.{recursion_from_All}
 use Rattle.std.proofs.lemmas.List.Sorted.{IsPermutation-refl, IsPermutation-sym, IsPermutation-trans, IsPermutation-cons, IsPermutation-middle, IsPermutation-append_left, IsPermutation-append_right, IsPermutation-map, Contains-permutation}
-use Rattle.base_types.specs.declared.account.Account.{Account}
-use Rattle.base_types.specs.Orders.{addr_cmp, cons_cmp, denom_cmp}
+use Rattle.base_types.specs.{declared.account.Account.Account, Orders.{addr_cmp, cons_cmp, denom_cmp}}
 use Rattle.base_types.proofs.MapLemmas.{equal}
 use Rattle.base_coins.specs.Coins.{Money}
-use Rattle.base_roles.specs.declared.entities.Historical.{Historical}
-use Rattle.base_roles.specs.declared.entities.Purse.{Purse}
-use Rattle.base_roles.specs.declared.entities.RedelegationEntry.{RedelegationEntry}
-use Rattle.base_roles.specs.declared.entities.StartingInfo.{StartingInfo}
-use Rattle.base_roles.specs.declared.entities.UnbondingEntry.{UnbondingEntry}
-use Rattle.base_roles.specs.declared.entities.Validator.{Validator}
-use Rattle.base_roles.specs.declared.items.Item.{Item}
-use Rattle.base_roles.specs.declared.items.Item.TheVariants as item
-use Rattle.base_roles.specs.declared.params.Params.{Params}
-use Rattle.base_roles.specs.Entries.{at, with}
-use Rattle.base_roles.specs.Holdings.{Balances}
+use Rattle.base_roles.specs.declared.entities.{Historical.Historical, Purse.Purse, RedelegationEntry.RedelegationEntry}
+use Rattle.base_roles.specs.declared.entities.{StartingInfo.StartingInfo, UnbondingEntry.UnbondingEntry}
+use Rattle.base_roles.specs.declared.{entities.Validator.Validator, items.Item.Item, params.Params.Params}
+use Rattle.base_roles.specs.{Entries.{at, with}, Holdings.Balances}
 use Rattle.base_roles.specs.Items.{key_of, no_address, no_info, no_purse, no_validator}
-use Rattle.base_roles.specs.Orders.{pair_cmp, place_cmp, triple_cmp}
-use Rattle.base_roles.proofs.HoldingLemmas.{place_exact}
+use Rattle.base_roles.{specs.Orders.{pair_cmp, place_cmp, triple_cmp}, proofs.HoldingLemmas.place_exact}
+use Rattle.base_roles.specs.declared.items.Item.TheVariants as item
 use Rattle.base_records.proofs.MemberLemmas.{Member, Once, contained, member, member-cases, member-left, member-right}
 use Rattle.rule_modules.proofs.SoundLemmas.{exact_addr, exact_pair}
 use Rattle.law_soundness.proofs.Redelegating.{exact_triple}
@@ -36,8 +21,7 @@ use Rattle.store_records.specs.declared.records.Signed.{Signed}
 use Rattle.store_records.specs.Gathering.{Gathered, new_or, with_new, once, shared_with, lists_with, gathered_with, also, gathered, nothing_gathered, all_of, whole, records_in}
 use Rattle.store_records.specs.Plain.{SharedSeen, ListsSeen, PlainSeen, AreAscending, period_cmp, event_cmp, event_at, reward_items, listed}
 use Rattle.store_records.proofs.OnceLaws.{kind_of, listed_once, once_anyway}
-use Rattle.law_records.proofs.AscendLaws.{none_ascend, one_ascends}
-use Rattle.law_records.proofs.RewardLists.{event_exact, period_exact}
+use Rattle.law_records.proofs.{AscendLaws.{none_ascend, one_ascends}, RewardLists.{event_exact, period_exact}}
 
 -- ---- lists with one element more
 

@@ -1,31 +1,17 @@
 -- How many refer to a period, told by the periods of its operator; and that records stand where something refers.
-use Rattle.std.proofs.Common.{◌≡◌, ◌∙◌, ℕ, ◌+◌, ◌-◌, ◌<◌, ◌≤◌, Bool, true, false, cond, List, [], ◌∷◌, Some, None, map, refl, sym, ap, subst, arith, zero-add}
-use Rattle.std.specs.Prelude.{◌==◌, ◌&&◌, filter, is_some}
-use Rattle.std.specs.declared.cmp.Ordering.{Ordering}
-use Rattle.std.specs.declared.cmp.Ordering.TheVariants.{Less}
-use Rattle.std.specs.Ordering.{is_eq}
-use Rattle.std.specs.BTreeMap.{is_at}
-use Rattle.std.specs.Cmp.{IsTotalOrder}
-use Rattle.std.specs.List.{AllByRecursion, list_all}
-use Rattle.std.specs.List.Sorted.{IsStrictlySortedBy}
-use Rattle.std.specs.Map.{keys_of}
-use Rattle.std.proofs.lemmas.Bool.{true≢false}
-use Rattle.std.proofs.lemmas.Bool.Decides.{nat_tests}
+use Rattle.std.proofs.Common.{◌≡◌, ◌∙◌, ℕ, ◌+◌, ◌-◌, ◌<◌, ◌≤◌, Bool, true, false, cond, List, [], ◌∷◌, Some, None, map, refl, sym, ap, subst, arith, zero-add, ◌==◌, ◌&&◌, filter, is_some, Ordering, Less, is_eq, true≢false}
+use Rattle.std.specs.{BTreeMap.is_at, Cmp.IsTotalOrder, List.{AllByRecursion, list_all, Sorted.IsStrictlySortedBy}}
+use Rattle.std.{specs.Map.keys_of, proofs.lemmas.Bool.Decides.nat_tests}
 use Rattle.base_types.specs.Orders.{addr_cmp}
-use Rattle.base_roles.specs.declared.entities.SlashEvent.{SlashEvent}
-use Rattle.base_roles.specs.declared.entities.StartingInfo.{StartingInfo}
-use Rattle.base_roles.specs.Entries.{at}
+use Rattle.base_roles.specs.{declared.entities.{SlashEvent.SlashEvent, StartingInfo.StartingInfo}, Entries.at}
 use Rattle.base_roles.specs.Orders.{same_addr}
-use Rattle.rule_modules.specs.Amounts.{count_where}
-use Rattle.rule_modules.specs.Periods.{references_of, starts_of}
+use Rattle.rule_modules.specs.{Amounts.count_where, Periods.{references_of, starts_of}}
 use Rattle.rule_modules.proofs.OrderLemmas.{same_back, same_is}
 use Rattle.mod_periods.proofs.OrderLemmas.{period_found}
 use Rattle.store_soundness.specs.Events.{is_event_sound}
 use Rattle.store_soundness.specs.Histories.{refer_currents, refer_starts, refer_events, references_at}
-use Rattle.store_records.specs.Plain.{SharedSeen, event_at, period_cmp}
-use Rattle.store_soundness.specs.Standing.{are_begun, is_before, is_begun}
-use Rattle.store_records.specs.States.{periods_in, rewards_of}
-use Rattle.store_soundness.proofs.TallyLemmas.{lookup_alike}
+use Rattle.store_soundness.{specs.Standing.{are_begun, is_before, is_begun}, proofs.TallyLemmas.lookup_alike}
+use Rattle.store_records.specs.{Plain.{SharedSeen, event_at, period_cmp}, States.{periods_in, rewards_of}}
 
 pub first_true : (a b : Bool) → (a && b) ≡ true → a ≡ true
 first_true true b h = refl

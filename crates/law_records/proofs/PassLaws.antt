@@ -1,50 +1,29 @@
 -- Records that pass all tests are those of a sound state, and the records of a sound state pass them.
-use Rattle.std.proofs.Common.{◌≡◌, ◌∙◌, ℕ, ◌^◌, ◌<◌, true, List, length, Option, Some, None, option_map, refl, sym, ap}
-use Rattle.std.specs.Prelude.{◌&&◌, is_some, IsSome}
-use Rattle.std.specs.BTreeMap.{is_at}
-use Rattle.std.proofs.lemmas.Map.Made.{lookup-map_values}
+use Rattle.std.proofs.Common.{◌≡◌, ◌∙◌, ℕ, ◌^◌, ◌<◌, true, List, length, Option, Some, None, option_map, refl, sym, ap, ◌&&◌, is_some, IsSome}
+use Rattle.std.{specs.BTreeMap.is_at, proofs.lemmas.Map.Made.lookup-map_values}
 use Rattle.base_types.specs.Orders.{addr_cmp, cons_cmp}
-use Rattle.base_roles.specs.Entries.{at}
-use Rattle.base_roles.specs.Orders.{pair_cmp}
-use Rattle.base_roles.specs.Staked.{Staked, lists_of, validator_at}
-use Rattle.rule_modules.specs.Chain.{State, shared_in, window_in}
-use Rattle.rule_modules.specs.Distribution.{Shared}
-use Rattle.rule_modules.specs.Periods.{Periods, start_of}
-use Rattle.rule_modules.specs.Sound.{AreRecorded, IsSound, StakedIsSound, StandsFor}
-use Rattle.rule_modules.specs.Window.{Window, signing_of}
-use Rattle.rule_modules.proofs.EntryLemmas.{from_all}
-use Rattle.rule_modules.proofs.OrderLemmas.{pair_total}
-use Rattle.rule_modules.proofs.SoundLemmas.{exact_pair}
-use Rattle.store_records.specs.declared.records.Signed.{Signed}
-use Rattle.store_records.specs.States.{signing_in, state_of, window_of}
+use Rattle.base_roles.specs.{Entries.at, Orders.pair_cmp, Staked.{Staked, lists_of, validator_at}}
+use Rattle.rule_modules.specs.{Chain.{State, shared_in, window_in}, Distribution.Shared, Periods.{Periods, start_of}}
+use Rattle.rule_modules.specs.{Sound.{AreRecorded, IsSound, StakedIsSound, StandsFor}, Window.{Window, signing_of}}
+use Rattle.rule_modules.proofs.{EntryLemmas.from_all, OrderLemmas.pair_total, SoundLemmas.exact_pair}
+use Rattle.store_records.specs.{declared.records.Signed.Signed, States.{signing_in, state_of, window_of}}
 use Rattle.store_soundness.specs.Accounts.{holds_stake, holds_rewards}
-use Rattle.store_soundness.specs.Entries.{are_unbondings_sound, are_redelegations_sound}
-use Rattle.store_soundness.specs.Events.{are_events_sound}
+use Rattle.store_soundness.specs.{Entries.{are_unbondings_sound, are_redelegations_sound}, Events.are_events_sound}
 use Rattle.store_soundness.specs.Histories.{are_counted, do_ratios_grow}
 use Rattle.store_soundness.specs.Ranges.{is_context_sound, are_backed, are_validators_sound, are_currents_in_range, are_few}
 use Rattle.store_soundness.specs.Shares.{are_shares_delegated, are_cons_distinct}
 use Rattle.store_soundness.specs.Signing.{are_recorded, are_signings_sound}
 use Rattle.store_soundness.specs.Sound.{are_values_sound, are_stakes_sound, are_rewards_sound, are_others_sound}
 use Rattle.store_soundness.specs.Standing.{are_begun, have_keys, stands_for_stakes}
-use Rattle.law_records.specs.Coins.{AreCoins}
-use Rattle.law_records.specs.HistoryLaws.{AreRewardsTested}
-use Rattle.law_records.specs.PassLaws.{SoundRecordsPass, TestsMakeSound}
-use Rattle.law_records.specs.Records.{plain_of, shared_of, signed_as, signed_in}
-use Rattle.law_records.proofs.AccountLaws.{accounts_decide}
-use Rattle.law_records.proofs.BackedLaws.{backed_decides}
-use Rattle.law_records.proofs.DecisionLaws.{ground_is_decided}
-use Rattle.law_records.proofs.FewLaws.{few_decides, few_told}
-use Rattle.law_records.proofs.FewPass.{few_too}
-use Rattle.law_records.proofs.HistoryLaws.{are_rewards_sound_by_tests}
-use Rattle.law_records.proofs.OperatorLemmas.{first_true, second_true}
-use Rattle.law_records.proofs.RangeLaws.{validators_decide}
-use Rattle.law_records.proofs.ShareLaws.{staked_decide}
-use Rattle.law_records.proofs.EntryLaws.{unbondings_decide, redelegations_decide}
-use Rattle.law_records.proofs.RecordLaws.{plain_ascends}
-use Rattle.law_records.proofs.RewardLists.{current_at}
+use Rattle.law_records.specs.{Coins.AreCoins, HistoryLaws.AreRewardsTested, PassLaws.{SoundRecordsPass, TestsMakeSound}}
+use Rattle.law_records.{specs.Records.{plain_of, shared_of, signed_as, signed_in}, proofs.AccountLaws.accounts_decide}
+use Rattle.law_records.proofs.{BackedLaws.backed_decides, DecisionLaws.ground_is_decided}
+use Rattle.law_records.proofs.{FewLaws.{few_decides, few_told}, FewPass.few_too, HistoryLaws.are_rewards_sound_by_tests}
+use Rattle.law_records.proofs.{OperatorLemmas.{first_true, second_true}, RangeLaws.validators_decide}
+use Rattle.law_records.proofs.{ShareLaws.staked_decide, EntryLaws.{unbondings_decide, redelegations_decide}}
+use Rattle.law_records.proofs.{RecordLaws.plain_ascends, RewardLists.current_at}
 use Rattle.law_records.proofs.RewardPass.{begun_pass, both_true, counted_pass, events_pass, histories_belong, ranges_pass, ratios_money, ratios_pass}
-use Rattle.law_records.proofs.SigningLaws.{recorded_decides, window_sound}
-use Rattle.law_records.proofs.SigningPass.{signings_pass}
+use Rattle.law_records.proofs.{SigningLaws.{recorded_decides, window_sound}, SigningPass.signings_pass}
 use Rattle.law_records.proofs.StandLaws.{periods_stand, stands_decide}
 
 -- ---- distribution

@@ -1,22 +1,15 @@
 -- Sound periods, in F1's own words.
-use Rattle.std.proofs.Common.{◌≡◌, ◌∙◌, ℕ, ◌+◌, ◌^◌, ◌<◌, ◌≤◌, Bool, true, false, cond, List, [], ◌∷◌, refl, ap, arith, zero-add}
-use Rattle.std.specs.Prelude.{◌==◌, nat_le, if◌then◌else◌, is_some, AllPairs}
-use Rattle.std.specs.List.{AllByRecursion}
-use Rattle.std.proofs.lemmas.Bool.Decides.{nat_tests}
+use Rattle.std.proofs.Common.{◌≡◌, ◌∙◌, ℕ, ◌+◌, ◌^◌, ◌<◌, ◌≤◌, Bool, true, false, cond, List, [], ◌∷◌, refl, ap, arith, zero-add, ◌==◌, nat_le, if◌then◌else◌, is_some, AllPairs}
+use Rattle.std.{specs.List.{AllByRecursion, Sorted.IsStrictlySortedBy}, proofs.lemmas.Bool.Decides.nat_tests}
 use Rattle.std.proofs.lemmas.List.Elements.{All-from_recursion, All-nil, All-weaker, recursion_from_All}
-use Rattle.std.proofs.lemmas.List.Kept.{AllPairs-cons}
-use Rattle.std.proofs.lemmas.Map.Lookups.{exact_bytes}
+use Rattle.std.proofs.lemmas.{List.Kept.AllPairs-cons, Map.Lookups.exact_bytes}
 use Rattle.base_types.specs.Orders.{addr_cmp}
 use Rattle.base_coins.specs.Coins.{Money, IsMoney}
-use Rattle.std.specs.List.Sorted.{IsStrictlySortedBy}
-use Rattle.base_roles.specs.declared.entities.SlashEvent.{SlashEvent}
-use Rattle.base_roles.specs.declared.entities.StartingInfo.{StartingInfo}
-use Rattle.base_roles.specs.Entries.{at}
+use Rattle.base_roles.specs.{declared.entities.{SlashEvent.SlashEvent, StartingInfo.StartingInfo}, Entries.at}
 use Rattle.rule_modules.specs.Amounts.{count_where}
 use Rattle.rule_modules.specs.Periods.{Periods, Rewards, ratio_at, references_of, start_of, starts_of}
 use Rattle.rule_modules.specs.Sound.{EventIsSound, GrowWithHeight, PeriodsAreSound, RewardsAreSound, StartIsSound}
-use Rattle.rule_modules.proofs.EntryLemmas.{from_all}
-use Rattle.rule_modules.proofs.OrderLemmas.{addr_total}
+use Rattle.rule_modules.proofs.{EntryLemmas.from_all, OrderLemmas.addr_total}
 use Rattle.mod_periods.specs.Stands.{AreSound, IsSound}
 
 -- ---- nothing refers to a period that has not ended

@@ -1,18 +1,10 @@
 -- The tests of parameters, time, height and validators decide that they are in their ranges.
-use Rattle.std.proofs.Common.{◌≡◌, ℕ, ◌^◌, ◌≤◌, ◌<◌, true, false, List, refl, sym, ap, arith}
-use Rattle.std.specs.Prelude.{◌⊎◌, ◌==◌, ◌&&◌, ◌||◌, nat_lt, nat_le, is_none, All}
-use Rattle.std.proofs.Common.{inl, inr}
-use Rattle.std.specs.Bool.{Decides}
-use Rattle.std.proofs.lemmas.Bool.{cases_lt}
-use Rattle.std.proofs.lemmas.Bool.Decides.{nat_tests, Decides-and, Decides-or, Decides-eqb, Decides-like}
-use Rattle.base_roles.specs.declared.entities.Validator.{Validator}
-use Rattle.base_roles.specs.declared.params.Ctx.{Ctx}
-use Rattle.base_roles.specs.declared.params.Params.{Params}
-use Rattle.base_roles.specs.Ground.{AreInRange, end_of_blocks}
+use Rattle.std.proofs.Common.{◌≡◌, ℕ, ◌^◌, ◌≤◌, ◌<◌, true, false, List, refl, sym, ap, arith, ◌⊎◌, ◌==◌, ◌&&◌, ◌||◌, nat_lt, nat_le, is_none, All, inl, inr, Decides}
+use Rattle.std.proofs.lemmas.Bool.{cases_lt, Decides.{nat_tests, Decides-and, Decides-or, Decides-eqb, Decides-like}}
+use Rattle.base_roles.specs.declared.{entities.Validator.Validator, params.{Ctx.Ctx, Params.Params}}
+use Rattle.base_roles.{specs.Ground.{AreInRange, end_of_blocks}, proofs.RangeLemmas.none_out}
 use Rattle.rule_modules.specs.Sound.{ValidatorIsSound}
-use Rattle.base_roles.proofs.RangeLemmas.{none_out}
-use Rattle.rule_machine.specs.Genesis.{are_in_range}
-use Rattle.rule_machine.proofs.Ranges.{in_range}
+use Rattle.rule_machine.{specs.Genesis.are_in_range, proofs.Ranges.in_range}
 use Rattle.store_soundness.specs.Ranges.{is_context_sound, is_validator_sound, are_validators_sound}
 use Rattle.law_records.proofs.TestLemmas.{at_most, below, all_decides}
 

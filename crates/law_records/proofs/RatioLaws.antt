@@ -1,26 +1,12 @@
 -- The recorded ratios of an operator: their periods fall, they grow with the period, and what is found at a period.
-use Rattle.std.proofs.Common.{◌≡◌, ◌∙◌, ℕ, ◌<◌, ◌≤◌, Bool, true, false, cond, List, [], ◌∷◌, ◌++◌, Option, Some, None, map, refl, sym, ap, subst, arith, inl, inr}
-use Rattle.std.specs.Prelude.{◌==◌, ◌||◌, ◌⊎◌, filter, reverse, not, nat_le, is_some, if◌then◌else◌, unwrap_or, Contains}
-use Rattle.std.specs.declared.cmp.Ordering.{Ordering}
-use Rattle.std.specs.declared.cmp.Ordering.TheVariants.{Less, Equal, Greater}
-use Rattle.std.specs.Ordering.{is_eq, nat_cmp, ordering_then}
-use Rattle.std.specs.BTreeMap.{is_at}
-use Rattle.std.specs.List.{AllByRecursion}
-use Rattle.std.specs.List.Sorted.{IsStrictlySortedBy}
-use Rattle.std.specs.Map.{keys_of}
-use Rattle.std.proofs.lemmas.Bool.{true≢false}
-use Rattle.std.proofs.lemmas.Bool.Decides.{nat_tests}
-use Rattle.std.proofs.lemmas.List.{reverse-append}
-use Rattle.std.proofs.lemmas.Map.Lookups.{exact_bytes}
-use Rattle.base_types.specs.Orders.{addr_cmp, denom_cmp}
-use Rattle.base_types.proofs.MapLemmas.{equal}
+use Rattle.std.proofs.Common.{◌≡◌, ◌∙◌, ℕ, ◌<◌, ◌≤◌, Bool, true, false, cond, List, [], ◌∷◌, ◌++◌, Option, Some, None, map, refl, sym, ap, subst, arith, inl, inr, ◌==◌, ◌||◌, ◌⊎◌, filter, reverse, not, nat_le, is_some, if◌then◌else◌, unwrap_or, Contains, Ordering, Less, Equal, Greater, is_eq, nat_cmp, true≢false}
+use Rattle.std.specs.{Ordering.ordering_then, BTreeMap.is_at, List.{AllByRecursion, Sorted.IsStrictlySortedBy}}
+use Rattle.std.{specs.Map.keys_of, proofs.lemmas.{Bool.Decides.nat_tests, List.reverse-append, Map.Lookups.exact_bytes}}
+use Rattle.base_types.{specs.Orders.{addr_cmp, denom_cmp}, proofs.MapLemmas.equal}
 use Rattle.base_coins.specs.Coins.{Money, amount_of}
-use Rattle.base_roles.specs.declared.entities.Historical.{Historical}
-use Rattle.base_roles.specs.Entries.{at}
-use Rattle.base_roles.specs.Orders.{same_addr}
+use Rattle.base_roles.specs.{declared.entities.Historical.Historical, Entries.at, Orders.same_addr}
 use Rattle.base_records.proofs.MemberLemmas.{Member, contained}
-use Rattle.rule_modules.specs.Periods.{ratio_at}
-use Rattle.rule_modules.specs.Sound.{AreFalling}
+use Rattle.rule_modules.specs.{Periods.ratio_at, Sound.AreFalling}
 use Rattle.rule_modules.proofs.OrderLemmas.{addr_total, same_back, same_is, same_itself}
 use Rattle.mod_periods.proofs.OrderLemmas.{period_found}
 use Rattle.store_records.specs.Plain.{period_cmp}

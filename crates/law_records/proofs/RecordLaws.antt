@@ -1,23 +1,14 @@
 -- The items of a plain state are those of its records, whose keys ascend where the state is sound.
-use Rattle.std.proofs.Common.{◌≡◌, ◌∙◌, ℕ, List, [], ◌∷◌, ◌++◌, Option, Some, None, option_map, map, refl, sym, ap, subst}
-use Rattle.std.specs.Prelude.{reverse}
-use Rattle.std.specs.List.{cons_option, filter_map, flat_map}
-use Rattle.std.specs.List.Sorted.{IsStrictlySortedBy}
-use Rattle.std.specs.Map.{keys_of}
-use Rattle.std.proofs.lemmas.List.{map-append}
+use Rattle.std.proofs.Common.{◌≡◌, ◌∙◌, ℕ, List, [], ◌∷◌, ◌++◌, Option, Some, None, option_map, map, refl, sym, ap, subst, reverse, filter_map, flat_map}
+use Rattle.std.{specs.{List.{cons_option, Sorted.IsStrictlySortedBy}, Map.keys_of}, proofs.lemmas.List.map-append}
 use Rattle.base_types.specs.Orders.{addr_cmp, cons_cmp}
 use Rattle.base_coins.specs.Coins.{Money}
-use Rattle.base_roles.specs.declared.entities.Historical.{Historical}
-use Rattle.base_roles.specs.declared.entities.SlashEvent.{SlashEvent}
-use Rattle.base_roles.specs.declared.items.Item.{Item}
+use Rattle.base_roles.specs.declared.{entities.{Historical.Historical, SlashEvent.SlashEvent}, items.Item.Item}
 use Rattle.base_roles.specs.declared.items.Item.TheVariants as item
-use Rattle.rule_modules.specs.Chain.{State, shared_in, window_in}
-use Rattle.rule_modules.specs.Periods.{Periods, Rewards, history_kept, starts_of}
-use Rattle.rule_modules.specs.Sound.{IsSound}
-use Rattle.rule_modules.specs.Window.{Signing, Window, info_of}
+use Rattle.rule_modules.specs.{Chain.{State, shared_in, window_in}, Periods.{Periods, Rewards, history_kept, starts_of}}
+use Rattle.rule_modules.specs.{Sound.IsSound, Window.{Signing, Window, info_of}}
 use Rattle.rule_machine.specs.Items.{historical_items, items_of, ring_of, signing_items, entry_items, ground_items, staked_items, reward_items as items_of_rewards}
-use Rattle.store_records.specs.declared.records.Signed.{Signed}
-use Rattle.store_records.specs.Plain.{AreAscending, event_at, listed, reward_items}
+use Rattle.store_records.specs.{declared.records.Signed.Signed, Plain.{AreAscending, event_at, listed, reward_items}}
 use Rattle.law_records.specs.Records.{events_in, histories_in, plain_of, shared_of, signed_in}
 use Rattle.law_records.proofs.RewardLists.{block, current_keys, histories_ascend, slashes_ascend}
 

@@ -1,21 +1,13 @@
 -- The record of an ended period stands exactly while its validator does and something refers to it.
-use Rattle.std.proofs.Common.{◌≡◌, ◌∙◌, ℕ, ◌==◌, Bool, true, false, List, Option, Some, None, inl, inr, refl, sym, ap, eqb-true}
-use Rattle.std.specs.Prelude.{◌⊎◌, if◌then◌else◌, is_some}
-use Rattle.base_roles.specs.declared.entities.Historical.{Historical}
-use Rattle.base_roles.specs.declared.entities.StartingInfo.{StartingInfo}
-use Rattle.base_roles.specs.Entries.{at}
+use Rattle.std.proofs.Common.{◌≡◌, ◌∙◌, ℕ, ◌==◌, Bool, true, false, List, Option, Some, None, inl, inr, refl, sym, ap, eqb-true, ◌⊎◌, if◌then◌else◌, is_some}
+use Rattle.base_roles.specs.{declared.entities.{Historical.Historical, StartingInfo.StartingInfo}, Entries.at}
 use Rattle.base_roles.specs.Staked.{validator_at}
 use Rattle.base_types.specs.Orders.{addr_cmp}
-use Rattle.rule_modules.specs.Chain.{State, shared_in}
-use Rattle.rule_modules.specs.Periods.{Periods, ratio_at, references_of, starts_of}
+use Rattle.rule_modules.specs.{Chain.{State, shared_in}, Periods.{Periods, ratio_at, references_of, starts_of}}
 use Rattle.rule_modules.specs.Sound.{IsSound}
-use Rattle.mod_periods.specs.Kept.{record_of}
-use Rattle.mod_periods.specs.Stands.{history_of, references_at, references_in}
-use Rattle.law_records.specs.HistoryLaws.{kept_rewards}
-use Rattle.law_records.specs.Records.{plain_of}
-use Rattle.law_records.specs.Referred.{RecordsGoWithReferences}
-use Rattle.law_records.proofs.GatheredLaws.{states_gathered}
-use Rattle.law_records.proofs.RewardLists.{history_found}
+use Rattle.mod_periods.specs.{Kept.record_of, Stands.{history_of, references_at, references_in}}
+use Rattle.law_records.specs.{HistoryLaws.kept_rewards, Records.plain_of, Referred.RecordsGoWithReferences}
+use Rattle.law_records.proofs.{GatheredLaws.states_gathered, RewardLists.history_found}
 
 -- a record is due unless nothing is counted
 counted : (c : ℕ) (h : Historical) → (if c == 0 then None else Some h) ≡ None → c ≡ 0

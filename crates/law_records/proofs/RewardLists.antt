@@ -1,26 +1,13 @@
 -- What F1 keeps of sound rewards, as lists: the periods that run, the records of ended ones, and slash events.
-use Rattle.std.proofs.Common.{◌≡◌, ◌∙◌, ℕ, zero, suc, ◌<◌, ◌≤◌, Bool, true, false, cond, List, [], ◌∷◌, ◌++◌, Option, Some, None, option_map, map, refl, sym, ap, subst, arith, inl, inr}
-use Rattle.std.specs.Prelude.{◌==◌, ◌&&◌, ◌⊎◌, filter, reverse, unwrap_or, if◌then◌else◌}
-use Rattle.std.specs.declared.cmp.Ordering.{Ordering}
-use Rattle.std.specs.declared.cmp.Ordering.TheVariants.{Less, Equal, Greater}
-use Rattle.std.specs.Ordering.{nat_cmp, ordering_then}
-use Rattle.std.specs.Cmp.{nat_cmp_is, tied_then}
-use Rattle.std.specs.BTreeMap.{is_at}
-use Rattle.std.specs.List.{AllByRecursion, cons_option, filter_map, flat_map}
-use Rattle.std.specs.List.Sorted.{IsStrictlySortedBy}
-use Rattle.std.specs.Map.{keys_of}
-use Rattle.std.proofs.lemmas.Bool.Decides.{nat_tests}
-use Rattle.std.proofs.lemmas.List.{reverse-append}
-use Rattle.std.proofs.lemmas.List.Elements.{filter_map-append, recursion_from_All}
-use Rattle.std.proofs.lemmas.Map.Lookups.{exact_bytes}
-use Rattle.base_types.specs.Orders.{addr_cmp}
-use Rattle.base_types.proofs.MapLemmas.{equal}
+use Rattle.std.proofs.Common.{◌≡◌, ◌∙◌, ℕ, zero, suc, ◌<◌, ◌≤◌, Bool, true, false, cond, List, [], ◌∷◌, ◌++◌, Option, Some, None, option_map, map, refl, sym, ap, subst, arith, inl, inr, ◌==◌, ◌&&◌, ◌⊎◌, filter, reverse, unwrap_or, if◌then◌else◌, Ordering, Less, Equal, Greater, nat_cmp, filter_map, flat_map}
+use Rattle.std.specs.{Ordering.ordering_then, Cmp.{nat_cmp_is, tied_then}, BTreeMap.is_at}
+use Rattle.std.specs.{List.{AllByRecursion, cons_option, Sorted.IsStrictlySortedBy}, Map.keys_of}
+use Rattle.std.proofs.lemmas.{Bool.Decides.nat_tests, List.reverse-append}
+use Rattle.std.proofs.lemmas.{List.Elements.{filter_map-append, recursion_from_All}, Map.Lookups.exact_bytes}
+use Rattle.base_types.{specs.Orders.addr_cmp, proofs.MapLemmas.equal}
 use Rattle.base_coins.specs.Coins.{Money}
-use Rattle.base_roles.specs.declared.entities.Historical.{Historical}
-use Rattle.base_roles.specs.declared.entities.SlashEvent.{SlashEvent}
-use Rattle.base_roles.specs.declared.entities.StartingInfo.{StartingInfo}
-use Rattle.base_roles.specs.Entries.{at}
-use Rattle.base_roles.specs.Orders.{same_addr}
+use Rattle.base_roles.specs.declared.entities.{Historical.Historical, SlashEvent.SlashEvent, StartingInfo.StartingInfo}
+use Rattle.base_roles.specs.{Entries.at, Orders.same_addr}
 use Rattle.base_records.proofs.MemberLemmas.{Member, member}
 use Rattle.rule_modules.specs.Periods.{Periods, Rewards, history_kept, initial_records, ratio_at, references_of, starts_of}
 use Rattle.rule_modules.specs.Sound.{AreFalling, GrowWithHeight, PeriodsAreSound, RewardsAreSound}

@@ -1,47 +1,29 @@
 -- The records of sound rewards pass the tests of distribution.
-use Rattle.std.proofs.Common.{◌≡◌, ◌∙◌, ℕ, suc, ◌+◌, ◌-◌, ◌^◌, ◌<◌, ◌≤◌, Bool, true, false, cond, List, [], ◌∷◌, length, Option, Some, None, option_map, map, refl, sym, ap, subst, arith, inl, inr}
-use Rattle.std.specs.Prelude.{◌==◌, ◌&&◌, ◌||◌, ◌⊎◌, filter, not, nat_lt, nat_le, is_some, unwrap_or, if◌then◌else◌, All}
-use Rattle.std.specs.declared.cmp.Ordering.TheVariants.{Less}
-use Rattle.std.specs.Ordering.{is_eq}
-use Rattle.std.specs.BTreeMap.{is_at}
-use Rattle.std.specs.List.{AllByRecursion, list_all}
-use Rattle.std.specs.List.Sorted.{IsStrictlySortedBy}
-use Rattle.std.specs.Map.{keys_of}
-use Rattle.std.proofs.lemmas.Bool.{true≢false}
+use Rattle.std.proofs.Common.{◌≡◌, ◌∙◌, ℕ, suc, ◌+◌, ◌-◌, ◌^◌, ◌<◌, ◌≤◌, Bool, true, false, cond, List, [], ◌∷◌, length, Option, Some, None, option_map, map, refl, sym, ap, subst, arith, inl, inr, ◌==◌, ◌&&◌, ◌||◌, ◌⊎◌, filter, not, nat_lt, nat_le, is_some, unwrap_or, if◌then◌else◌, All, Less, is_eq, true≢false}
+use Rattle.std.specs.{BTreeMap.is_at, List.{AllByRecursion, list_all, Sorted.IsStrictlySortedBy}, Map.keys_of}
 use Rattle.std.proofs.lemmas.Bool.Decides.{nat_tests}
 use Rattle.std.proofs.lemmas.List.Elements.{All-contains, All-map, All-weaker, recursion_from_All}
 use Rattle.std.proofs.lemmas.Map.Lookups.{exact_bytes}
 use Rattle.base_types.specs.Orders.{addr_cmp, denom_cmp}
 use Rattle.base_coins.specs.Coins.{Money, IsMoney, amount_of}
-use Rattle.base_roles.specs.declared.entities.Historical.{Historical}
-use Rattle.base_roles.specs.declared.entities.SlashEvent.{SlashEvent}
-use Rattle.base_roles.specs.declared.entities.StartingInfo.{StartingInfo}
-use Rattle.base_roles.specs.Entries.{at}
-use Rattle.base_roles.specs.Orders.{pair_cmp, same_addr}
+use Rattle.base_roles.specs.declared.entities.{Historical.Historical, SlashEvent.SlashEvent, StartingInfo.StartingInfo}
+use Rattle.base_roles.specs.{Entries.at, Orders.{pair_cmp, same_addr}, Ranges.is_within}
 use Rattle.base_roles.proofs.HoldingLemmas.{denom_total}
 use Rattle.base_records.proofs.MemberLemmas.{Member, contained}
-use Rattle.rule_modules.specs.Amounts.{count_where}
-use Rattle.rule_modules.specs.Distribution.{Shared}
+use Rattle.rule_modules.specs.{Amounts.count_where, Distribution.Shared}
 use Rattle.rule_modules.specs.Periods.{Periods, Rewards, initial_records, ratio_at, references_of, start_of, starts_of}
 use Rattle.rule_modules.specs.Sound.{EventIsSound, GrowWithHeight, PeriodsAreSound, RewardsAreSound, StartIsSound}
 use Rattle.rule_modules.proofs.EntryLemmas.{from_all, to_all}
 use Rattle.rule_modules.proofs.OrderLemmas.{addr_total, pair_total, pair_found, same_back, same_itself}
-use Rattle.base_roles.specs.Ranges.{is_within}
-use Rattle.mod_periods.specs.Stands.{KeepsRewards, history_of}
-use Rattle.mod_periods.proofs.OrderLemmas.{event_total, period_total}
+use Rattle.mod_periods.{specs.Stands.{KeepsRewards, history_of}, proofs.OrderLemmas.{event_total, period_total}}
 use Rattle.mod_periods.proofs.RecordLemmas.{counted, counted-some}
 use Rattle.store_records.specs.Plain.{SharedSeen, event_at, event_cmp, period_cmp}
 use Rattle.store_soundness.specs.Events.{is_event_sound, are_later, are_events_sound}
 use Rattle.store_soundness.specs.Histories.{refer_currents, refer_starts, refer_events, references_at, have_counts, is_at_most, is_recorded, are_counted, does_not_fall, do_ratios_grow}
-use Rattle.store_soundness.specs.Ranges.{are_currents_in_range}
-use Rattle.store_soundness.specs.Standing.{are_begun, is_before, is_begun}
-use Rattle.law_records.specs.HistoryLaws.{kept_rewards}
-use Rattle.law_records.specs.Records.{shared_of}
-use Rattle.law_records.proofs.EventLaws.{Slashes, own_events}
-use Rattle.law_records.proofs.HistoryLaws.{IsCounted, counts_decide}
-use Rattle.law_records.proofs.KeptLaws.{events_told, records_keep}
-use Rattle.law_records.proofs.OperatorLemmas.{current_counted, references_told}
-use Rattle.law_records.proofs.PeriodLemmas.{money_at}
+use Rattle.store_soundness.specs.{Ranges.are_currents_in_range, Standing.{are_begun, is_before, is_begun}}
+use Rattle.law_records.{specs.{HistoryLaws.kept_rewards, Records.shared_of}, proofs.EventLaws.{Slashes, own_events}}
+use Rattle.law_records.proofs.{HistoryLaws.{IsCounted, counts_decide}, KeptLaws.{events_told, records_keep}}
+use Rattle.law_records.proofs.{OperatorLemmas.{current_counted, references_told}, PeriodLemmas.money_at}
 use Rattle.law_records.proofs.RatioLaws.{AtMost, period_above}
 use Rattle.law_records.proofs.RewardLists.{current_at, current_keys, event_found, histories_ascend, slashes_ascend}
 use Rattle.law_records.proofs.TestLemmas.{all_decides, at_most, below, within}

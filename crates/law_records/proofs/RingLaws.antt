@@ -1,23 +1,16 @@
 -- The ring of votes: there is one, and signing records that pass their test are those of their plain votes.
-use Rattle.std.proofs.Common.{◌≡◌, ◌∙◌, ℕ, zero, suc, ◌+◌, ◌-◌, ◌%◌, ◌^◌, ◌≤◌, ◌<◌, Bool, true, false, cond, List, [], ◌∷◌, ◌++◌, map, take, drop, length, refl, sym, ap, subst, inl, inr, arith, zero-add, add-zero}
-use Rattle.std.specs.Prelude.{◌⊎◌, ◌==◌, ◌&&◌, min, replicate, reverse, All}
-use Rattle.std.proofs.Math.Nat.{min-le_left}
-use Rattle.std.proofs.lemmas.Bool.{cases_lt}
-use Rattle.std.proofs.lemmas.List.{append-nil, drop_all, drop_at, length-append, length-drop, length-reverse, reverse-reverse, take-append-drop, take_all, take_at}
-use Rattle.std.proofs.lemmas.List.Elements.{recursion_from_All}
-use Rattle.std.specs.List.{AllByRecursion}
+use Rattle.std.proofs.Common.{◌≡◌, ◌∙◌, ℕ, zero, suc, ◌+◌, ◌-◌, ◌%◌, ◌^◌, ◌≤◌, ◌<◌, Bool, true, false, cond, List, [], ◌∷◌, ◌++◌, map, take, drop, length, refl, sym, ap, subst, inl, inr, arith, zero-add, add-zero, ◌⊎◌, ◌==◌, ◌&&◌, min, replicate, reverse, All, append-nil, drop_at, length-append, length-drop, take-append-drop, take_all, take_at}
+use Rattle.std.proofs.{Math.Nat.min-le_left, lemmas.{Bool.cases_lt, List.{drop_all, length-reverse, reverse-reverse}}}
+use Rattle.std.{proofs.lemmas.List.Elements.recursion_from_All, specs.List.AllByRecursion}
 use Rattle.base_roles.specs.declared.entities.SigningInfo.{SigningInfo}
-use Rattle.rule_modules.specs.Amounts.{count_where}
-use Rattle.rule_modules.specs.Window.{Signing, Window, IsRing, info_of, missed_of}
+use Rattle.rule_modules.specs.{Amounts.count_where, Window.{Signing, Window, IsRing, info_of, missed_of}}
 use Rattle.mod_signing.specs.Kept as kept
 use Rattle.mod_signing.specs.Stands.{KeepsVotes, KeepsSignings}
 use Rattle.rule_machine.specs.Items.{ring_of}
-use Rattle.store_records.specs.declared.records.Signed.{Signed}
-use Rattle.store_records.specs.States.{votes_of, signing_in, window_of}
+use Rattle.store_records.specs.{declared.records.Signed.Signed, States.{votes_of, signing_in, window_of}}
 use Rattle.store_soundness.specs.Signing.{is_signing_sound, are_signings_sound}
 use Rattle.law_records.specs.Records.{signed_as, signed_in}
-use Rattle.law_records.proofs.SigningLaws.{IsSigned, signed_decides, votes_length}
-use Rattle.law_records.proofs.TestLemmas.{all_decides}
+use Rattle.law_records.proofs.{SigningLaws.{IsSigned, signed_decides, votes_length}, TestLemmas.all_decides}
 use Rattle.law_records.proofs.SigningPass.{length_turned, misses, misses_reversed, misses_turned}
 
 -- ---- one ring

@@ -1,34 +1,19 @@
 -- The tests of validators and delegations decide that they are sound together.
-use Rattle.std.proofs.Common.{◌≡◌, ◌∙◌, ℕ, zero, suc, ◌+◌, ◌^◌, ◌≤◌, ◌<◌, Bool, true, false, cond, not, List, [], ◌∷◌, map, length, get_or, refl, sym, ap, subst, inl, inr, arith}
-use Rattle.std.specs.Prelude.{◌⊎◌, ◌==◌, ◌&&◌, ◌||◌, nat_lt, is_some, All, Contains, IsSome}
-use Rattle.std.specs.declared.cmp.Ordering.{Ordering}
-use Rattle.std.specs.declared.cmp.Ordering.TheVariants.{Less, Equal, Greater}
-use Rattle.std.specs.Bool.{Decides}
-use Rattle.std.specs.BTreeMap.{is_at}
-use Rattle.std.specs.Cmp.{eq_by_cmp_equiv, tied_itself}
-use Rattle.std.specs.List.{list_any, list_all, AllByRecursion}
-use Rattle.std.specs.List.Sorted.{IsStrictlySortedBy}
-use Rattle.std.specs.Map.{keys_of, values_of}
-use Rattle.std.specs.Ordering.{is_eq}
-use Rattle.std.proofs.lemmas.Bool.{true≢false}
+use Rattle.std.proofs.Common.{◌≡◌, ◌∙◌, ℕ, zero, suc, ◌+◌, ◌^◌, ◌≤◌, ◌<◌, Bool, true, false, cond, not, List, [], ◌∷◌, map, length, get_or, refl, sym, ap, subst, inl, inr, arith, ◌⊎◌, ◌==◌, ◌&&◌, ◌||◌, nat_lt, is_some, All, Contains, IsSome, Ordering, Less, Equal, Greater, Decides, is_eq, true≢false}
+use Rattle.std.specs.{BTreeMap.is_at, Cmp.{eq_by_cmp_equiv, tied_itself}, List.{list_any, list_all, AllByRecursion}}
+use Rattle.std.specs.{List.Sorted.IsStrictlySortedBy, Map.{keys_of, values_of}}
 use Rattle.std.proofs.lemmas.Bool.Decides.{Decides-and, Decides-eqb}
 use Rattle.std.proofs.lemmas.List.Elements.{All-nil, All-cons, All-contains, All-map, All-weaker, Contains-append_right, recursion_from_All, All-from_recursion}
-use Rattle.std.proofs.lemmas.List.Folds.{list_any_none}
-use Rattle.std.proofs.lemmas.Map.Lookups.{exact_bytes}
-use Rattle.std.proofs.lemmas.Map.Views.{list_any-from_Contains}
-use Rattle.base_types.specs.Orders.{addr_cmp, cons_cmp}
-use Rattle.base_types.proofs.MapLemmas.{equal}
+use Rattle.std.proofs.lemmas.{List.Folds.list_any_none, Map.{Lookups.exact_bytes, Views.list_any-from_Contains}}
+use Rattle.base_types.{specs.Orders.{addr_cmp, cons_cmp}, proofs.MapLemmas.equal}
 use Rattle.base_coins.specs.Coins.{has_repeats}
-use Rattle.base_roles.specs.declared.entities.Validator.{Validator}
-use Rattle.base_roles.specs.Entries.{at, sum_where}
-use Rattle.base_roles.specs.Orders.{pair_cmp, same_addr}
-use Rattle.base_roles.specs.Staked.{Staked, validator_at}
+use Rattle.base_roles.specs.{declared.entities.Validator.Validator, Entries.{at, sum_where}}
+use Rattle.base_roles.specs.{Orders.{pair_cmp, same_addr}, Staked.{Staked, validator_at}}
 use Rattle.rule_modules.specs.Sound.{delegated_shares, ValidatorIsSound, StakedIsSound}
 use Rattle.rule_modules.proofs.OrderLemmas.{addr_total, cons_total}
 use Rattle.store_soundness.specs.Ranges.{are_validators_sound}
 use Rattle.store_soundness.specs.Shares.{shares_of, is_total, have_shares, is_delegation_sound, are_delegations_sound, are_shares_delegated, are_cons_distinct}
-use Rattle.law_records.proofs.RangeLaws.{validators_decide}
-use Rattle.law_records.proofs.TestLemmas.{below, all_decides}
+use Rattle.law_records.proofs.{RangeLaws.validators_decide, TestLemmas.{below, all_decides}}
 
 abbrev Validators : Type 0
 Validators = List (List ℕ × Validator)

@@ -1,27 +1,16 @@
 -- The tests of signing records tell that they are sound, and that those stand which have to.
-use Rattle.std.proofs.Common.{◌≡◌, ◌∙◌, ℕ, ◌+◌, ◌-◌, ◌%◌, ◌^◌, ◌≤◌, ◌<◌, Bool, true, false, List, [], ◌∷◌, ◌++◌, Option, Some, None, map, take, drop, length, get_or, refl, sym, ap, subst, inl, inr, arith}
-use Rattle.std.specs.Prelude.{◌⊎◌, ◌==◌, ◌&&◌, ◌||◌, min, nat_lt, nat_le, is_some, option_map, replicate, reverse, All, Contains, IsSome}
-use Rattle.std.specs.Bool.{Decides}
-use Rattle.std.specs.BTreeMap.{is_at}
-use Rattle.std.specs.List.{list_all}
-use Rattle.std.specs.List.Sorted.{IsStrictlySortedBy}
-use Rattle.std.specs.Map.{keys_of, values_of}
-use Rattle.std.proofs.Math.Nat.{min-le_left}
-use Rattle.std.proofs.lemmas.Bool.Decides.{nat_tests, Decides-and, Decides-or, Decides-eqb}
-use Rattle.std.proofs.lemmas.List.{get_or-map, length-append, length-replicate, length-reverse, take-append-drop}
-use Rattle.std.proofs.lemmas.List.Elements.{All-map, All-contains, All-weaker}
-use Rattle.std.proofs.lemmas.Map.Entries.{length-values_of}
+use Rattle.std.proofs.Common.{◌≡◌, ◌∙◌, ℕ, ◌+◌, ◌-◌, ◌%◌, ◌^◌, ◌≤◌, ◌<◌, Bool, true, false, List, [], ◌∷◌, ◌++◌, Option, Some, None, map, take, drop, length, get_or, refl, sym, ap, subst, inl, inr, arith, ◌⊎◌, ◌==◌, ◌&&◌, ◌||◌, min, nat_lt, nat_le, is_some, option_map, replicate, reverse, All, Contains, IsSome, Decides, length-append, take-append-drop}
+use Rattle.std.specs.{BTreeMap.is_at, List.{list_all, Sorted.IsStrictlySortedBy}, Map.{keys_of, values_of}}
+use Rattle.std.proofs.{Math.Nat.min-le_left, lemmas.Bool.Decides.{nat_tests, Decides-and, Decides-or, Decides-eqb}}
+use Rattle.std.proofs.lemmas.List.{get_or-map, length-replicate, length-reverse}
+use Rattle.std.proofs.lemmas.{List.Elements.{All-map, All-contains, All-weaker}, Map.Entries.length-values_of}
 use Rattle.std.proofs.lemmas.Map.Made.{keys_of-map_values, lookup-map_values}
 use Rattle.base_types.specs.Orders.{cons_cmp}
-use Rattle.base_roles.specs.declared.entities.Validator.{Validator}
-use Rattle.base_roles.specs.Entries.{at}
-use Rattle.base_roles.specs.Staked.{Staked, is_unbonded}
-use Rattle.rule_modules.specs.Amounts.{count_where}
-use Rattle.rule_modules.specs.Sound.{SigningIsSound, WindowIsSound, AreRecorded}
+use Rattle.base_roles.specs.{declared.entities.Validator.Validator, Entries.at, Staked.{Staked, is_unbonded}}
+use Rattle.rule_modules.specs.{Amounts.count_where, Sound.{SigningIsSound, WindowIsSound, AreRecorded}}
 use Rattle.rule_modules.specs.Window.{signing_of}
-use Rattle.store_records.specs.declared.records.Signed.{Signed}
+use Rattle.store_records.specs.{declared.records.Signed.Signed, States.{votes_of, signing_in, window_of}}
 use Rattle.store_soundness.specs.Signing.{is_recorded, are_recorded, is_signing_sound, are_signings_sound}
-use Rattle.store_records.specs.States.{votes_of, signing_in, window_of}
 use Rattle.law_records.proofs.TestLemmas.{at_most, below, all_decides}
 
 -- ---- the records that have to stand

@@ -1,18 +1,13 @@
 -- The signing records of a sound window pass their test.
-use Rattle.std.proofs.Common.{◌≡◌, ◌∙◌, ℕ, ◌+◌, ◌-◌, ◌%◌, ◌^◌, Bool, true, cond, List, [], ◌∷◌, ◌++◌, take, drop, length, length-take, refl, sym, ap, arith, zero-add, add-zero, add_assoc, add_comm}
-use Rattle.std.specs.Prelude.{min, reverse}
-use Rattle.std.proofs.Math.Nat.{min_comm}
-use Rattle.std.proofs.lemmas.Bool.Decides.{Decides-eqb}
-use Rattle.std.proofs.lemmas.List.{length-append, length-reverse, reverse-append, take-append-drop}
+use Rattle.std.proofs.Common.{◌≡◌, ◌∙◌, ℕ, ◌+◌, ◌-◌, ◌%◌, ◌^◌, Bool, true, cond, List, [], ◌∷◌, ◌++◌, take, drop, length, length-take, refl, sym, ap, arith, zero-add, add-zero, add_assoc, add_comm, min, reverse, length-append, take-append-drop}
+use Rattle.std.proofs.{Math.Nat.min_comm, lemmas.{Bool.Decides.Decides-eqb, List.{length-reverse, reverse-append}}}
 use Rattle.std.proofs.lemmas.List.Elements.{All-map, All-weaker}
-use Rattle.rule_modules.specs.Amounts.{count_where}
-use Rattle.rule_modules.specs.Sound.{SigningIsSound, WindowIsSound}
+use Rattle.rule_modules.specs.{Amounts.count_where, Sound.{SigningIsSound, WindowIsSound}}
 use Rattle.rule_modules.specs.Window.{Signing, Window, missed_of}
 use Rattle.rule_machine.specs.Items.{ring_of}
 use Rattle.store_records.specs.declared.records.Signed.{Signed}
 use Rattle.store_soundness.specs.Signing.{is_signing_sound, are_signings_sound}
-use Rattle.law_records.specs.Records.{signed_as, signed_in}
-use Rattle.law_records.proofs.RewardPass.{all_true, both_true}
+use Rattle.law_records.{specs.Records.{signed_as, signed_in}, proofs.RewardPass.{all_true, both_true}}
 use Rattle.law_records.proofs.TestLemmas.{at_most, below}
 
 abbrev pub misses : List Bool → ℕ

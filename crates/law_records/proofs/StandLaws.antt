@@ -1,21 +1,12 @@
 -- The tests of keys decide that distribution stands for validators and delegations, and those of starts that they are begun.
-use Rattle.std.proofs.Common.{◌≡◌, ◌∙◌, ℕ, ◌^◌, ◌≤◌, ◌<◌, Bool, true, false, cond, List, [], ◌∷◌, Option, Some, None, map, refl, sym, ap, arith}
-use Rattle.std.specs.Prelude.{◌&&◌, nat_lt, nat_le, is_some, option_map, All, IsSome}
-use Rattle.std.specs.Bool.{Decides}
-use Rattle.std.specs.BTreeMap.{is_at}
-use Rattle.std.specs.List.{list_all}
-use Rattle.std.proofs.lemmas.Bool.Decides.{nat_tests, Decides-and}
+use Rattle.std.proofs.Common.{◌≡◌, ◌∙◌, ℕ, ◌^◌, ◌≤◌, ◌<◌, Bool, true, false, cond, List, [], ◌∷◌, Option, Some, None, map, refl, sym, ap, arith, ◌&&◌, nat_lt, nat_le, is_some, option_map, All, IsSome, Decides}
+use Rattle.std.{specs.{BTreeMap.is_at, List.list_all}, proofs.lemmas.Bool.Decides.{nat_tests, Decides-and}}
 use Rattle.base_types.specs.Orders.{addr_cmp, cons_cmp}
-use Rattle.base_roles.specs.declared.entities.Validator.{Validator}
-use Rattle.base_roles.specs.Entries.{at}
-use Rattle.base_roles.specs.Orders.{pair_cmp}
+use Rattle.base_roles.specs.{declared.entities.Validator.Validator, Entries.at, Orders.pair_cmp}
 use Rattle.base_roles.specs.Staked.{Staked, lists_of}
-use Rattle.rule_modules.specs.Chain.{shared_in}
-use Rattle.rule_modules.specs.Sound.{StandsFor}
-use Rattle.rule_modules.proofs.OrderLemmas.{addr_total, pair_total}
-use Rattle.store_records.specs.Plain.{SharedSeen, ListsSeen, PlainSeen}
+use Rattle.rule_modules.{specs.{Chain.shared_in, Sound.StandsFor}, proofs.OrderLemmas.{addr_total, pair_total}}
+use Rattle.store_records.specs.{Plain.{SharedSeen, ListsSeen, PlainSeen}, States.{state_of, periods_in, rewards_of}}
 use Rattle.store_soundness.specs.Standing.{have_same_keys, have_keys}
-use Rattle.store_records.specs.States.{state_of, periods_in, rewards_of}
 use Rattle.law_records.proofs.TestLemmas.{same_keys}
 
 -- an operator has periods where one of them runs

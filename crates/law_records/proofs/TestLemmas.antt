@@ -1,18 +1,10 @@
 -- What tests decide: of numbers, and of each entry of a list.
-use Rattle.std.proofs.Common.{◌≡◌, ◌∙◌, ℕ, ◌≤◌, ◌<◌, Bool, true, false, cond, List, [], ◌∷◌, Option, Some, None, refl, sym, ap, arith}
-use Rattle.std.specs.Prelude.{◌==◌, ◌&&◌, nat_le, nat_lt, is_some, All}
-use Rattle.std.specs.Bool.{Decides}
-use Rattle.std.specs.List.{list_all}
-use Rattle.std.specs.BTreeMap.{is_at}
-use Rattle.std.specs.Cmp.{IsTotalOrder, eq_by_cmp_equiv, tied_itself}
+use Rattle.std.proofs.Common.{◌≡◌, ◌∙◌, ℕ, ◌≤◌, ◌<◌, Bool, true, false, cond, List, [], ◌∷◌, Option, Some, None, refl, sym, ap, arith, ◌==◌, ◌&&◌, nat_le, nat_lt, is_some, All, Decides, is_eq, Ordering}
+use Rattle.std.specs.{List.list_all, BTreeMap.is_at, Cmp.{IsTotalOrder, eq_by_cmp_equiv, tied_itself}}
 use Rattle.std.specs.Map.{keys_of, lookup}
-use Rattle.std.specs.Ordering.{is_eq}
-use Rattle.std.specs.declared.cmp.Ordering.{Ordering}
 use Rattle.std.proofs.lemmas.Bool.Decides.{nat_tests, Decides-and, Decides-by_and, Decides-eqb}
-use Rattle.base_roles.specs.Entries.{at}
-use Rattle.base_roles.specs.Ranges.{is_within}
-use Rattle.store_soundness.specs.Standing.{has_keys_of, have_same_keys}
-use Rattle.store_soundness.proofs.TallyLemmas.{lookup_alike}
+use Rattle.base_roles.specs.{Entries.at, Ranges.is_within}
+use Rattle.store_soundness.{specs.Standing.{has_keys_of, have_same_keys}, proofs.TallyLemmas.lookup_alike}
 
 pub at_most : (n most : ℕ) → Decides (nat_le n most) (n ≤ most)
 at_most n most = (λ e. grind (arith, nat_tests), λ e. grind (arith, nat_tests))

@@ -3,8 +3,7 @@ use Rattle.std.proofs.Common.{◌≡◌, ℕ, zero, suc, ◌+◌, ◌-◌, ◌*�
 use Rattle.std.proofs.lemmas.Bool.{cases_lt}
 use Rattle.base_decimals.specs.Fractions.{Fraction, fraction_of}
 use Rattle.base_coins.specs.Coins.{amount_of}
-use Rattle.base_shares.specs.Shares.{value_even_of, amount_out}
-use Rattle.base_shares.specs.Burns.{ratio_of, plus}
+use Rattle.base_shares.specs.{Shares.{value_even_of, amount_out}, Burns.{ratio_of, plus}}
 use Rattle.base_roles.specs.Log.{LogEntry}
 use Rattle.base_roles.specs.Log as log
 use Rattle.rule_modules.specs.Ideal.{Ideal, times, ideal_start, ideal_over, shared_out}
@@ -12,8 +11,7 @@ use Rattle.law_rewards.specs.Account.{increment_of}
 use Rattle.law_rewards.specs.Laws.{ValuesAreClose, IncrementsAreClose, RemovalsLowerByHalfAUnit, MomentsDoNotMatter}
 use Rattle.law_rewards.specs.Sharing.{shared_among}
 use Rattle.law_rewards.proofs.Rounding.{one, value_cut_low, value_cut_high, value_even_high, value_even_low, increment_low, increment_high}
-use Rattle.law_rewards.proofs.Steps.{leave_half}
-use Rattle.law_rewards.proofs.Following.{out_low}
+use Rattle.law_rewards.proofs.{Steps.leave_half, Following.out_low}
 
 pub values_are_close : ValuesAreClose
 values_are_close = λ tokens shares part some. record {

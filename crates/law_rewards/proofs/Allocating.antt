@@ -1,50 +1,25 @@
 -- As a block begins, no start is of its height, and allocating its fees keeps accounts reached.
-use Rattle.std.proofs.Common.{◌≡◌, ℕ, ◌-◌, ◌^◌, ◌<◌, ◌≤◌, Bool, true, false, List, [], map, refl, arith, sym, ap, subst, ◌∙◌, Option, Some, None, Result, Ok}
-use Rattle.std.specs.Prelude.{if◌then◌else◌, is_some, nat_le, sum, IsSome}
-use Rattle.std.specs.List.{slice_get}
-use Rattle.std.specs.BTreeMap.{is_at}
-use Rattle.std.proofs.lemmas.List.Elements.{recursion_from_All}
-use Rattle.std.proofs.lemmas.Map.Entries.{place_from_lookup}
-use Rattle.base_decimals.specs.declared.over.Over.{Over}
-use Rattle.base_decimals.specs.Decimals.{mul_cut_of}
+use Rattle.std.proofs.Common.{◌≡◌, ℕ, ◌-◌, ◌^◌, ◌<◌, ◌≤◌, Bool, true, false, List, [], map, refl, arith, sym, ap, subst, ◌∙◌, Option, Some, None, Result, Ok, if◌then◌else◌, is_some, nat_le, sum, IsSome, slice_get}
+use Rattle.std.{specs.BTreeMap.is_at, proofs.lemmas.{List.Elements.recursion_from_All, Map.Entries.place_from_lookup}}
+use Rattle.base_decimals.specs.{declared.over.Over.Over, Decimals.mul_cut_of}
 use Rattle.base_types.specs.declared.account.Account.TheVariants as account
 use Rattle.base_types.specs.declared.account.Module.TheVariants as holder
 use Rattle.base_types.specs.Orders.{addr_cmp}
-use Rattle.base_coins.specs.Coins.{Money, IsMoney, coins_mul_cut}
-use Rattle.base_coins.proofs.Parts.{by_is_money, below_is}
-use Rattle.base_roles.specs.declared.entities.StartingInfo.{StartingInfo}
-use Rattle.base_roles.specs.declared.entities.Validator.{Validator}
-use Rattle.base_roles.specs.declared.facts.Fact.{Fact}
-use Rattle.base_roles.specs.declared.messages.Vote.{Vote}
-use Rattle.base_roles.specs.Entries.{at}
-use Rattle.base_roles.specs.Holdings.{coins_of}
-use Rattle.base_roles.specs.Log.{Log}
-use Rattle.base_roles.specs.Orders.{pair_cmp, same_addr}
-use Rattle.base_roles.specs.Staked.{Staked, validator_at, delegation}
-use Rattle.base_roles.specs.Flow.{◌>>=◌}
+use Rattle.base_coins.{specs.Coins.{Money, IsMoney, coins_mul_cut}, proofs.Parts.{by_is_money, below_is}}
+use Rattle.base_roles.specs.declared.{entities.{StartingInfo.StartingInfo, Validator.Validator}, facts.Fact.Fact}
+use Rattle.base_roles.specs.{declared.messages.Vote.Vote, Entries.at, Holdings.coins_of, Log.Log}
+use Rattle.base_roles.specs.{Orders.{pair_cmp, same_addr}, Staked.{Staked, validator_at, delegation}, Flow.{◌>>=◌}}
 use Rattle.base_roles.specs.World.{View, sent}
-use Rattle.rule_modules.proofs.EntryLemmas.{to_all}
-use Rattle.rule_modules.proofs.OrderLemmas.{pair_total}
-use Rattle.rule_modules.specs.Allocation.{sharing, shares_allocated, allocated, fees_allocated}
-use Rattle.rule_modules.specs.Amounts.{in_units}
-use Rattle.rule_modules.specs.Chain.{State, with_shared, allocation_step}
-use Rattle.rule_modules.specs.Distribution.{Shared}
-use Rattle.rule_modules.specs.Laws.{next_block}
-use Rattle.rule_modules.specs.Periods.{Periods, starts_of}
-use Rattle.rule_modules.specs.Purses.{Purses}
+use Rattle.rule_modules.proofs.{EntryLemmas.to_all, OrderLemmas.pair_total}
+use Rattle.rule_modules.specs.{Allocation.{sharing, shares_allocated, allocated, fees_allocated}, Amounts.in_units}
+use Rattle.rule_modules.specs.{Chain.{State, with_shared, allocation_step}, Distribution.Shared, Laws.next_block}
+use Rattle.rule_modules.specs.{Periods.{Periods, starts_of}, Purses.Purses}
 use Rattle.rule_modules.specs.Sound.{IsSound, StartIsSound, PeriodsAreSound}
-use Rattle.law_rewards.specs.States.{AreReached}
-use Rattle.law_rewards.specs.StateLaws.{ReachedStays, NoneStartedHere}
+use Rattle.law_rewards.specs.{States.AreReached, StateLaws.{ReachedStays, NoneStartedHere}}
 use Rattle.law_rewards.specs.Changes.{NoneStartedInNext, AllocationKeepsReached, BlockBeginKeepsReached}
-use Rattle.law_rewards.proofs.Lists.{all_at}
-use Rattle.law_rewards.proofs.Denominations.{step_parts}
-use Rattle.law_rewards.proofs.Entries.{addr_is, pair_is, one_passes}
-use Rattle.law_rewards.proofs.Following.{own_addr}
-use Rattle.law_rewards.proofs.Claims.{some_of}
-use Rattle.law_rewards.proofs.Endings.{next_block_keeps_reached}
-use Rattle.law_rewards.proofs.Beginnings.{if_ok}
-use Rattle.law_rewards.proofs.Quiet.{same_ok, quiet_reached}
-use Rattle.law_rewards.proofs.Sharing.{all_given, purses_sound, state_shared}
+use Rattle.law_rewards.proofs.{Lists.all_at, Denominations.step_parts, Entries.{addr_is, pair_is, one_passes}}
+use Rattle.law_rewards.proofs.{Following.own_addr, Claims.some_of, Endings.next_block_keeps_reached, Beginnings.if_ok}
+use Rattle.law_rewards.proofs.{Quiet.{same_ok, quiet_reached}, Sharing.{all_given, purses_sound, state_shared}}
 
 -- ---- starts of earlier heights
 

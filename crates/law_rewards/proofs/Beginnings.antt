@@ -1,46 +1,32 @@
 -- A start, and the message that withdraws a reward, as steps of a state, are the deeds of their rules.
-use Rattle.std.proofs.Common.{◌≡◌, ℕ, ◌+◌, ◌<◌, ◌≤◌, ◌≢◌, Bool, true, false, List, [], ◌∷◌, ◌++◌, map, refl, arith, sym, ap, subst, ◌∙◌, Option, Some, None, Result, Ok, Err, append_assoc}
-use Rattle.std.specs.Prelude.{unwrap_or, is_some, sum}
-use Rattle.std.specs.List.{AllByRecursion, slice_get, insert, remove}
-use Rattle.std.specs.BTreeMap.{is_at}
-use Rattle.std.specs.Ordering.{is_eq}
-use Rattle.std.proofs.lemmas.List.Elements.{recursion_from_All}
+use Rattle.std.proofs.Common.{◌≡◌, ℕ, ◌+◌, ◌<◌, ◌≤◌, ◌≢◌, Bool, true, false, List, [], ◌∷◌, ◌++◌, map, refl, arith, sym, ap, subst, ◌∙◌, Option, Some, None, Result, Ok, Err, append_assoc, unwrap_or, is_some, sum, slice_get, insert, remove, is_eq}
+use Rattle.std.{specs.{List.AllByRecursion, BTreeMap.is_at}, proofs.lemmas.List.Elements.recursion_from_All}
 use Rattle.std.proofs.lemmas.Map.Entries.{place_from_lookup}
 use Rattle.base_decimals.specs.declared.over.Over.{Over}
 use Rattle.base_types.specs.Orders.{addr_cmp}
 use Rattle.base_coins.specs.Coins.{Money}
 use Rattle.base_shares.specs.Shares.{value_cut_of}
-use Rattle.base_roles.specs.declared.entities.StartingInfo.{StartingInfo}
-use Rattle.base_roles.specs.declared.entities.Validator.{Validator}
-use Rattle.base_roles.specs.declared.refusal.Refusal.{Refusal}
-use Rattle.base_roles.specs.declared.refusal.Refusal.TheVariants.{NoValidator, NoDelegation, Overflow}
-use Rattle.base_roles.specs.Log.{Log, LogEntry}
+use Rattle.base_roles.specs.declared.entities.{StartingInfo.StartingInfo, Validator.Validator}
+use Rattle.base_roles.specs.declared.refusal.Refusal.{Refusal, TheVariants.{NoValidator, NoDelegation, Overflow}}
+use Rattle.base_roles.specs.{Log.{Log, LogEntry}, Orders.{pair_cmp, same_addr}, Staked.{validator_at, delegation}}
+use Rattle.base_roles.specs.{Flow.{◌>>=◌, or_stop, stopping}, World.View}
 use Rattle.base_roles.specs.Log as log
-use Rattle.base_roles.specs.Orders.{pair_cmp, same_addr}
-use Rattle.base_roles.specs.Staked.{validator_at, delegation}
-use Rattle.base_roles.specs.Flow.{◌>>=◌, or_stop, stopping}
-use Rattle.base_roles.specs.World.{View}
 pub use Rattle.rule_modules.proofs.GoingLemmas.{if_ok}
 use Rattle.rule_modules.specs.Chain.{State, with_shared}
 use Rattle.rule_modules.specs.Distribution.{Shared, started, reward_withdrawn, reward_renewed, payee_of}
 use Rattle.rule_modules.specs.Effects.{withdraw_reward}
-use Rattle.rule_modules.specs.Periods.{periods_of, start_of, with_start, without_start, last_ended}
-use Rattle.rule_modules.specs.Purses.{purse_of}
-use Rattle.rule_modules.specs.Sound.{IsSound}
-use Rattle.rule_modules.specs.Withdrawals.{reward_taken}
+use Rattle.rule_modules.specs.{Periods.{periods_of, start_of, with_start, without_start, last_ended}, Purses.purse_of}
+use Rattle.rule_modules.specs.{Sound.IsSound, Withdrawals.reward_taken}
 use Rattle.law_rewards.specs.Account.{Start, Account, IsReached, counted_shares, account_after}
-use Rattle.law_rewards.specs.Account as deed
 use Rattle.law_rewards.specs.States.{starts_in, account_in, AreReached}
-use Rattle.law_rewards.specs.StateLaws.{ReachedStays, RewardMessagesKeepReached}
-use Rattle.law_rewards.proofs.Lists.{all_at, sum_remove}
-use Rattle.law_rewards.proofs.Following.{own_addr, other_addr}
-use Rattle.law_rewards.proofs.Denominations.{step_parts}
+use Rattle.law_rewards.{specs.StateLaws.{ReachedStays, RewardMessagesKeepReached}, proofs.Lists.{all_at, sum_remove}}
+use Rattle.law_rewards.proofs.{Following.{own_addr, other_addr}, Denominations.step_parts}
 use Rattle.law_rewards.proofs.Entries.{addr_is, pair_is, IsGoneFrom, IsPutInto, put_into, put_outside, history_behind, history_elsewhere}
-use Rattle.law_rewards.proofs.Deeds.{apart_rest}
-use Rattle.law_rewards.proofs.Reached.{deeds_lead_on, reached_counted, reached_some, reached_apart}
+use Rattle.law_rewards.proofs.{Deeds.apart_rest, Reached.{deeds_lead_on, reached_counted, reached_some, reached_apart}}
 use Rattle.law_rewards.proofs.Claims.{IsReady, ready_in, IsEnded, some_of, start_with}
 use Rattle.law_rewards.proofs.Endings.{same_account, state_then, closed_is, same_some, end_is, ended_reached}
 use Rattle.law_rewards.proofs.Payments.{IsWithdrawn, withdrawn_is, state_behind, own_gone, paid_account, withdrawn_reached}
+use Rattle.law_rewards.specs.Account as deed
 
 -- ---- a start
 

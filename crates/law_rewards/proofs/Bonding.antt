@@ -1,33 +1,18 @@
 -- Making the bonded set anew keeps accounts reached: only statuses change.
-use Rattle.std.proofs.Common.{◌≡◌, ℕ, Bool, true, false, cond, List, [], ◌∷◌, ◌++◌, filter, refl, sym, ap, subst, ◌∙◌, Some, Result, Ok, append-nil}
-use Rattle.std.specs.Prelude.{◌&&◌, not, nat_lt}
-use Rattle.std.specs.List.{AllByRecursion}
-use Rattle.std.specs.Map.{values_of}
-use Rattle.std.proofs.lemmas.List.Elements.{recursion_from_All}
+use Rattle.std.proofs.Common.{◌≡◌, ℕ, Bool, true, false, cond, List, [], ◌∷◌, ◌++◌, filter, refl, sym, ap, subst, ◌∙◌, Some, Result, Ok, append-nil, ◌&&◌, not, nat_lt}
+use Rattle.std.{specs.{List.AllByRecursion, Map.values_of}, proofs.lemmas.List.Elements.recursion_from_All}
 use Rattle.base_decimals.specs.declared.over.Over.{Over}
-use Rattle.base_types.specs.declared.status.BondStatus.TheVariants.{Bonded, Unbonding}
-use Rattle.base_types.specs.Orders.{addr_cmp}
-use Rattle.base_roles.specs.declared.entities.Validator.{Validator}
-use Rattle.base_roles.specs.Orders.{same_addr}
-use Rattle.base_roles.specs.Staked.{Staked, validator_at, put_validator, is_bonded}
-use Rattle.base_roles.specs.Flow.{◌>>=◌, each}
+use Rattle.base_types.specs.{declared.status.BondStatus.TheVariants.{Bonded, Unbonding}, Orders.addr_cmp}
+use Rattle.base_roles.specs.{declared.entities.Validator.Validator, Orders.same_addr}
+use Rattle.base_roles.specs.{Staked.{Staked, validator_at, put_validator, is_bonded}, Flow.{◌>>=◌, each}}
 use Rattle.base_roles.specs.World.{View, World, bonded, call, over_view}
-use Rattle.rule_modules.proofs.EntryLemmas.{to_all}
-use Rattle.rule_modules.proofs.OperatorLemmas.{ordered_all}
-use Rattle.rule_modules.proofs.OrderLemmas.{addr_total}
+use Rattle.rule_modules.proofs.{EntryLemmas.to_all, OperatorLemmas.ordered_all, OrderLemmas.addr_total}
 use Rattle.rule_modules.specs.BondedSet.{joining_of, leaving_of, tokens_of, difference_moved, is_in_bonded_set, joined_set, left_set, set_updated}
-use Rattle.rule_modules.specs.Chain.{Hooks, State, chain_told, staked_in, with_staked, set_step}
-use Rattle.rule_modules.specs.Sound.{IsSound}
-use Rattle.rule_modules.specs.Stakes.{changed}
-use Rattle.rule_modules.specs.Unbondings.{completion}
-use Rattle.law_rewards.specs.States.{AreReached}
-use Rattle.law_rewards.specs.StateLaws.{ReachedStays}
-use Rattle.law_rewards.specs.Changes.{BondedSetKeepsReached}
-use Rattle.law_rewards.proofs.Denominations.{step_parts}
-use Rattle.law_rewards.proofs.Entries.{addr_is, put_there, put_elsewhere}
-use Rattle.law_rewards.proofs.Endings.{same_some}
-use Rattle.law_rewards.proofs.Beginnings.{if_ok, under_own}
-use Rattle.law_rewards.proofs.Delegating.{either_at}
+use Rattle.rule_modules.specs.{Chain.{Hooks, State, chain_told, staked_in, with_staked, set_step}, Sound.IsSound}
+use Rattle.rule_modules.specs.{Stakes.changed, Unbondings.completion}
+use Rattle.law_rewards.specs.{States.AreReached, StateLaws.ReachedStays, Changes.BondedSetKeepsReached}
+use Rattle.law_rewards.proofs.{Denominations.step_parts, Entries.{addr_is, put_there, put_elsewhere}, Endings.same_some}
+use Rattle.law_rewards.proofs.{Beginnings.{if_ok, under_own}, Delegating.either_at}
 use Rattle.law_rewards.proofs.Edits.{StandsAs, state_with, standing_reached, stands_through}
 use Rattle.law_rewards.proofs.Quiet.{same_ok, viewed_reached}
 

@@ -1,18 +1,14 @@
 -- What distribution's own rules carry on, of its records and the log, all hooks carry on, and so do the rules of staking that call them.
-use Rattle.std.proofs.Common.{◌≡◌, ℕ, ◌+◌, ◌-◌, ◌==◌, Bool, true, false, List, [], ◌∷◌, ◌++◌, refl, sym, ap, subst, Option, Some, None, Result, Ok, Err, append-nil, append_assoc}
-use Rattle.std.specs.Prelude.{unwrap_or, ◌&&◌, ◌||◌, if◌then◌else◌}
+use Rattle.std.proofs.Common.{◌≡◌, ℕ, ◌+◌, ◌-◌, ◌==◌, Bool, true, false, List, [], ◌∷◌, ◌++◌, refl, sym, ap, subst, Option, Some, None, Result, Ok, Err, append-nil, append_assoc, unwrap_or, ◌&&◌, ◌||◌, if◌then◌else◌}
 use Rattle.base_decimals.specs.declared.over.Over.{Over}
 use Rattle.base_coins.specs.Coins.{Money}
 use Rattle.base_shares.specs.Shares.{amount_out}
-use Rattle.base_roles.specs.declared.entities.Validator.{Validator}
-use Rattle.base_roles.specs.declared.facts.Fact.TheVariants as fact
-use Rattle.base_roles.specs.declared.refusal.Refusal.{Refusal}
-use Rattle.base_roles.specs.declared.refusal.Refusal.TheVariants.{Overflow}
-use Rattle.base_roles.specs.Log.{Log, LogEntry}
-use Rattle.base_roles.specs.Log as log
-use Rattle.base_roles.specs.Staked.{Staked, delegation, put_validator, is_unbonded}
+use Rattle.base_roles.specs.declared.{entities.Validator.Validator, refusal.Refusal.{Refusal, TheVariants.Overflow}}
+use Rattle.base_roles.specs.{Log.{Log, LogEntry}, Staked.{Staked, delegation, put_validator, is_unbonded}}
 use Rattle.base_roles.specs.Flow.{◌>>=◌, stopping}
 use Rattle.base_roles.specs.World.{View, Hook, Told, gives, World, call, modifying, modified, noted, over_view, over_mine, logged}
+use Rattle.base_roles.specs.declared.facts.Fact.TheVariants as fact
+use Rattle.base_roles.specs.Log as log
 use Rattle.base_roles.specs.World as hook
 use Rattle.rule_modules.specs.Chain.{Hooks, chain_told}
 use Rattle.rule_modules.specs.Delegating.{Origin, shares_given, paid_in, hook_before, delegated}
@@ -21,18 +17,12 @@ use Rattle.rule_modules.specs.Periods.{Periods, periods_of, start_of, without_st
 use Rattle.rule_modules.specs.Purses.{Purses, purse_of, closed}
 use Rattle.rule_modules.specs.Stakes.{put_delegation, without_shares, without_validator}
 use Rattle.rule_modules.specs.Unbonding.{put_in_jail, falls_below_minimum, left_standing, removed_if_empty, validator_removed, unbonded_shares}
-use Rattle.law_rewards.proofs.Denominations.{step_parts}
-use Rattle.law_rewards.proofs.Beginnings.{went_on}
-use Rattle.law_rewards.proofs.Quiet.{same_ok}
-use Rattle.law_rewards.proofs.Hooked.{IsIdle, hook_gave, call_parts, same_told, answer_of, before_is_idle}
-use Rattle.law_rewards.proofs.Growing.{more_of, more_world, behind_hook}
-use Rattle.law_rewards.proofs.Leaving.{less_of}
-use Rattle.law_rewards.proofs.Undelegating.{left_then, leaving}
 use Rattle.rule_modules.proofs.SlashParts.{event_put}
-use Rattle.law_rewards.proofs.Slashing.{recorded_parts, rule_told}
-use Rattle.law_rewards.proofs.Withdrawing.{IsMade, made_is}
-use Rattle.law_rewards.proofs.Paying.{ended_with}
-use Rattle.law_rewards.proofs.Staking.{removed_with}
+use Rattle.law_rewards.proofs.{Denominations.step_parts, Beginnings.went_on, Quiet.same_ok}
+use Rattle.law_rewards.proofs.Hooked.{IsIdle, hook_gave, call_parts, same_told, answer_of, before_is_idle}
+use Rattle.law_rewards.proofs.{Growing.{more_of, more_world, behind_hook}, Leaving.less_of}
+use Rattle.law_rewards.proofs.{Undelegating.{left_then, leaving}, Slashing.{recorded_parts, rule_told}}
+use Rattle.law_rewards.proofs.{Withdrawing.{IsMade, made_is}, Paying.ended_with, Staking.removed_with}
 
 -- an entry that neither makes a validator nor starts or withdraws a reward
 abbrev pub IsPlain : LogEntry → Type 0

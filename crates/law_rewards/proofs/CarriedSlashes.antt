@@ -1,18 +1,12 @@
 -- Slashes, votes and evidence carry on what the rules of distribution do.
-use Rattle.std.proofs.Common.{[], ◌++◌, refl}
-use Rattle.std.specs.Prelude.{IfOk}
-use Rattle.base_roles.specs.declared.messages.Evidence.{Evidence}
-use Rattle.base_roles.specs.declared.messages.Vote.{Vote}
-use Rattle.base_roles.specs.Log.{Log}
+use Rattle.std.proofs.Common.{[], ◌++◌, refl, IfOk}
+use Rattle.base_roles.specs.{declared.messages.{Evidence.Evidence, Vote.Vote}, Log.Log, World.World}
 use Rattle.base_roles.specs.Log as log
-use Rattle.base_roles.specs.World.{World}
 use Rattle.rule_modules.specs.Chain.{Stakes, State, beside_window, staked_in, vote_step, evidence_step}
-use Rattle.rule_modules.specs.Distribution.{Shared}
-use Rattle.rule_modules.specs.Slashing.{slash_fraction}
-use Rattle.rule_modules.proofs.GoingLemmas.{weaker_if}
+use Rattle.rule_modules.{specs.{Distribution.Shared, Slashing.slash_fraction}, proofs.GoingLemmas.weaker_if}
 use Rattle.rule_modules.proofs.SlashParts.{GoesThroughPunishing, evidence_goes, vote_goes, event_put}
-use Rattle.law_rewards.proofs.Carried.{IsCarried, unbonded_kept, ended_kept}
 use Rattle.rule_modules.proofs.BesideLemmas.{raised}
+use Rattle.law_rewards.proofs.Carried.{IsCarried, unbonded_kept, ended_kept}
 
 module _ (Q : Shared → Log → Type 0) (carries : IsCarried Q) where
   -- so it is in a state, and where the window stands beside

@@ -1,58 +1,41 @@
 -- Each message that names no payee, the fee and all parts of a block carry on what the rules of distribution do.
-use Rattle.std.proofs.Common.{◌≡◌, ℕ, ◌-◌, ◌*◌, ◌^◌, ◌==◌, Bool, true, false, List, [], ◌∷◌, ◌++◌, length, refl, ap, subst, ◌∙◌, Option, Some, None, Result, Ok, append_assoc}
-use Rattle.std.specs.Prelude.{IfOk, if◌then◌else◌, ◌&&◌, not, nat_lt, nat_le, find, is_some, map, sum, ⊤}
-use Rattle.std.specs.Map.{values_of}
-use Rattle.base_decimals.specs.declared.over.Over.{Over}
-use Rattle.base_decimals.specs.Decimals.{quo_cut_of}
-use Rattle.base_types.specs.declared.account.Account.{Account as Holder}
+use Rattle.std.proofs.Common.{◌≡◌, ℕ, ◌-◌, ◌*◌, ◌^◌, ◌==◌, Bool, true, false, List, [], ◌∷◌, ◌++◌, length, refl, ap, subst, ◌∙◌, Option, Some, None, Result, Ok, append_assoc, IfOk, if◌then◌else◌, ◌&&◌, not, nat_lt, nat_le, find, is_some, map, sum}
+use Rattle.std.specs.{Prelude.⊤, Map.values_of}
+use Rattle.base_decimals.specs.{declared.over.Over.Over, Decimals.quo_cut_of}
+use Rattle.base_types.specs.declared.{account.{Account.{Account as Holder}}, status.BondStatus.TheVariants.Unbonded}
+use Rattle.base_types.specs.Orders.{addr_cmp}
 use Rattle.base_types.specs.declared.account.Account.TheVariants as account
 use Rattle.base_types.specs.declared.account.Module.TheVariants as holder
-use Rattle.base_types.specs.declared.status.BondStatus.TheVariants.{Unbonded}
-use Rattle.base_types.specs.Orders.{addr_cmp}
-use Rattle.base_coins.specs.declared.coin.Coin.{Coin}
-use Rattle.base_coins.specs.Coins.{Money, coins_mul_cut, coins_taken}
+use Rattle.base_coins.specs.{declared.coin.Coin.Coin, Coins.{Money, coins_mul_cut, coins_taken}}
 use Rattle.base_shares.specs.Shares.{amount_out, has_invalid_rate}
-use Rattle.base_roles.specs.declared.entities.Validator.{Validator}
-use Rattle.base_roles.specs.declared.facts.Fact.{Fact}
-use Rattle.base_roles.specs.declared.facts.Fact.TheVariants as fact
-use Rattle.base_roles.specs.declared.messages.CreateValidator.{CreateValidator}
-use Rattle.base_roles.specs.declared.messages.EditValidator.{EditValidator}
-use Rattle.base_roles.specs.declared.messages.Vote.{Vote}
+use Rattle.base_roles.specs.declared.{entities.Validator.Validator, facts.Fact.Fact}
+use Rattle.base_roles.specs.declared.messages.{CreateValidator.CreateValidator, EditValidator.EditValidator, Vote.Vote}
 use Rattle.base_roles.specs.declared.refusal.Refusal.{Refusal}
 use Rattle.base_roles.specs.declared.refusal.Refusal.TheVariants.{InsufficientFunds, WrongDenom, NonPositive, NoValidator, ValidatorExists, ConsKeyExists, CommissionRange, CommissionBelowMinimum, MinSelfNotPositive, NoDelegation, NoCommission, PoolTooSmall, NotAuthority, Overflow, ModuleRecipient, FeeUnpaid, SelfRedelegation, Transitive, RedelegationsFull, TinyRedelegation, UnbondingsFull, RateInvalid, Jailed, NoEntry, CancelTooMuch, SelfBelowMinimum}
-use Rattle.base_roles.specs.Entries.{at, with}
-use Rattle.base_roles.specs.Holdings.{coins_of, is_short}
-use Rattle.base_roles.specs.Log.{Log}
-use Rattle.base_roles.specs.Log as log
-use Rattle.base_roles.specs.Orders.{same_addr}
+use Rattle.base_roles.specs.{Entries.{at, with}, Holdings.{coins_of, is_short}, Log.Log, Orders.same_addr}
 use Rattle.base_roles.specs.Staked.{Staked, validator_at, validator_by_cons, delegation, is_bonded}
-use Rattle.base_roles.specs.Flow.{◌>>=◌, each}
-use Rattle.base_roles.specs.World.{View, World, sent, over_view}
+use Rattle.base_roles.specs.{Flow.{◌>>=◌, each}, World.{View, World, sent, over_view}, declared.params.Params.Params}
+use Rattle.base_roles.specs.declared.facts.Fact.TheVariants as fact
+use Rattle.base_roles.specs.Log as log
 use Rattle.rule_modules.specs.Allocation.{share_given, shares_allocated, sharing, allocated, fees_allocated}
 use Rattle.rule_modules.specs.Amounts.{bond_coins, in_units, is_empty}
 use Rattle.rule_modules.specs.BondedSet.{joining_of, leaving_of, joined_set, left_set, set_updated, matured, validators_matured}
 use Rattle.rule_modules.specs.Chain.{Hooks, State, chain_told, staked_in, allocation_step, set_step, maturing_step, unbondings_step, redelegations_step}
-use Rattle.base_roles.specs.declared.params.Params.{Params}
 use Rattle.rule_modules.specs.Parameters.{update_params}
-use Rattle.rule_modules.proofs.ParameterLemmas.{on_update}
 use Rattle.rule_modules.specs.Delegating.{is_wrong, wallet, pool, shares_given, delegated, delegated_by}
 use Rattle.rule_modules.specs.Distribution.{Shared, started, reward_withdrawn, reward_renewed}
 use Rattle.rule_modules.specs.Effects.{coins_sent, send, create_validator, edit_validator, delegate, undelegate, begin_redelegate, cancel_unbonding, unjail, withdraw_reward, withdraw_commission, fund_community_pool, community_pool_spend, fee_paid}
 use Rattle.rule_modules.specs.Periods.{start_of}
 use Rattle.rule_modules.specs.Purses.{Purses, purse_of, with_purse, pool_joined, share_joined, commission_due, commission_paid, is_above_pool, pool_lowered}
-use Rattle.rule_modules.specs.Redelegations.{redelegations_of, is_transitive, redelegated}
-use Rattle.rule_modules.specs.Sound.{IsSound}
+use Rattle.rule_modules.specs.{Redelegations.{redelegations_of, is_transitive, redelegated}, Sound.IsSound}
 use Rattle.rule_modules.specs.Stakes.{changed, is_unbonding}
 use Rattle.rule_modules.specs.Unbonding.{shares_to_unbond, unbonded_shares, removed_if_empty}
 use Rattle.rule_modules.specs.Unbondings.{entries_of, can_be_cancelled, undelegated, cancelled}
-use Rattle.rule_modules.specs.Validators.{new_validator, are_out_of_range, created, edited}
-use Rattle.rule_modules.specs.Window.{unjailed}
+use Rattle.rule_modules.specs.{Validators.{new_validator, are_out_of_range, created, edited}, Window.unjailed}
 use Rattle.rule_modules.specs.Withdrawals.{reward_taken, commission_withdrawn, pool_funded, pool_spent, is_module}
-use Rattle.law_rewards.proofs.Beginnings.{if_ok}
-use Rattle.law_rewards.proofs.Hooked.{none_of}
-use Rattle.law_rewards.proofs.Creating.{nobody_has, state_made}
+use Rattle.rule_modules.proofs.{ParameterLemmas.on_update, GoingLemmas.{on_bind, on_stop, on_found, on_lifted}}
+use Rattle.law_rewards.proofs.{Beginnings.if_ok, Hooked.none_of, Creating.{nobody_has, state_made}}
 use Rattle.law_rewards.proofs.Telling.{next_if, lifted_if, on_then}
-use Rattle.rule_modules.proofs.GoingLemmas.{on_bind, on_stop, on_found, on_lifted}
 use Rattle.law_rewards.proofs.Carried.{IsCarried, nothing_logged, withdrawn_kept, delegated_kept, unbonded_kept, emptied_kept}
 
 module _ (Q : Shared → Log → Type 0) (carries : IsCarried Q) where

@@ -1,50 +1,32 @@
 -- The claims of a state are those of its accounts.
-use Rattle.std.proofs.Common.{◌≡◌, ℕ, zero, suc, ◌+◌, ◌-◌, ◌*◌, ◌^◌, ◌==◌, ◌<◌, ◌≤◌, Bool, true, false, cond, List, [], ◌∷◌, ◌++◌, map, filter, refl, arith, sym, ap, subst, ◌∙◌, Option, Some, None, Result, Ok, get_or, min}
-use Rattle.std.specs.Prelude.{All, unwrap_or, is_some, IfSome}
-use Rattle.std.specs.List.{AllByRecursion, slice_get}
-use Rattle.std.specs.BTreeMap.{is_at}
-use Rattle.std.proofs.lemmas.Grind.{common_steps}
-use Rattle.std.proofs.lemmas.List.Elements.{recursion_from_All}
-use Rattle.std.proofs.lemmas.Map.Entries.{place_from_lookup, All-lookup}
-use Rattle.base_decimals.specs.declared.over.Over.{Over}
-use Rattle.base_decimals.specs.Rounding.{cut}
-use Rattle.base_decimals.specs.Decimals.{digits_36, quo_cut_of, period_over}
+use Rattle.std.proofs.Common.{◌≡◌, ℕ, zero, suc, ◌+◌, ◌-◌, ◌*◌, ◌^◌, ◌==◌, ◌<◌, ◌≤◌, Bool, true, false, cond, List, [], ◌∷◌, ◌++◌, map, filter, refl, arith, sym, ap, subst, ◌∙◌, Option, Some, None, Result, Ok, get_or, min, All, unwrap_or, is_some, IfSome, slice_get}
+use Rattle.std.{specs.{List.AllByRecursion, BTreeMap.is_at}, proofs.lemmas.Grind.common_steps}
+use Rattle.std.proofs.lemmas.{List.Elements.recursion_from_All, Map.Entries.{place_from_lookup, All-lookup}}
+use Rattle.base_decimals.specs.{declared.over.Over.Over, Rounding.cut, Decimals.{digits_36, quo_cut_of, period_over}}
 use Rattle.base_coins.specs.Coins.{Money, IsMoney, amount_of, coins_added, coins_taken, coins_quo_cut}
-use Rattle.base_coins.proofs.Order.{rises_from_money, money-nil}
-use Rattle.base_coins.proofs.Amounts.{amount-all, amount-by, amount-added}
-use Rattle.base_coins.proofs.Parts.{by_is_money, below_is, zero_quo_cut}
-use Rattle.base_coins.proofs.Results.{sum_is_money, taken_is_money}
+use Rattle.base_coins.proofs.{Order.{rises_from_money, money-nil}, Amounts.{amount-all, amount-by, amount-added}}
+use Rattle.base_coins.proofs.{Parts.{by_is_money, below_is, zero_quo_cut}, Results.{sum_is_money, taken_is_money}}
 use Rattle.base_shares.specs.Shares.{value_even_of}
 use Rattle.base_types.specs.Orders.{addr_cmp}
-use Rattle.base_roles.specs.declared.entities.Purse.{Purse}
-use Rattle.base_roles.specs.declared.entities.StartingInfo.{StartingInfo}
-use Rattle.base_roles.specs.declared.entities.Validator.{Validator}
-use Rattle.base_roles.specs.declared.facts.Fact.TheVariants as fact
-use Rattle.base_roles.specs.Entries.{at, with}
-use Rattle.base_roles.specs.Items.{no_purse}
-use Rattle.base_roles.specs.Log.{Log}
-use Rattle.base_roles.specs.Log as log
-use Rattle.base_roles.specs.Orders.{pair_cmp, same_addr}
-use Rattle.base_roles.specs.Staked.{Staked, validator_at, delegation}
-use Rattle.base_roles.specs.Flow.{◌>>=◌, ◌>>◌, stop_if}
+use Rattle.base_roles.specs.declared.entities.{Purse.Purse, StartingInfo.StartingInfo, Validator.Validator}
+use Rattle.base_roles.specs.{Entries.{at, with}, Items.no_purse, Log.Log, Orders.{pair_cmp, same_addr}}
+use Rattle.base_roles.specs.{Staked.{Staked, validator_at, delegation}, Flow.{◌>>=◌, ◌>>◌, stop_if}}
 use Rattle.base_roles.specs.World.{View, noted}
-use Rattle.rule_modules.specs.Amounts.{over_facts}
-use Rattle.rule_modules.specs.Chain.{State}
-use Rattle.rule_modules.specs.Distribution.{Shared, current_taken, ended, reward_due}
-use Rattle.rule_modules.specs.Ideal.{Brackets, span_of, history_of, claimed}
-use Rattle.rule_modules.specs.Laws.{ClaimIsBracketed, claims_of}
+use Rattle.base_roles.specs.declared.facts.Fact.TheVariants as fact
+use Rattle.base_roles.specs.Log as log
+use Rattle.rule_modules.specs.{Amounts.over_facts, Chain.State, Distribution.{Shared, current_taken, ended, reward_due}}
+use Rattle.rule_modules.specs.{Ideal.{Brackets, span_of, history_of, claimed}, Laws.{ClaimIsBracketed, claims_of}}
 use Rattle.rule_modules.specs.Periods.{Periods, Rewards, initial_records, periods_of, start_of, with_periods, period_ended, ratio_at, last_ended, reward_of, reward_at}
 use Rattle.rule_modules.specs.Purses.{Purses, purse_of, with_purse, pool_joined, current_lost, current_pooled, current_emptied, pooled_told}
 use Rattle.rule_modules.specs.Sound.{IsSound}
 use Rattle.law_rewards.specs.Account.{Start, Account, IsReached, increment_of, lost_of, period_closed, reward_now}
-use Rattle.law_rewards.specs.Account as deed
 use Rattle.law_rewards.specs.Laws.{IsStartBracketed, CoversClaims, overclaim}
 use Rattle.law_rewards.specs.States.{starts_in, account_in, AreReached}
-use Rattle.law_rewards.specs.StateLaws.{ReachedIsBracketed, ReachedHasShortfallWithin}
-use Rattle.law_rewards.proofs.Following.{own_addr}
+use Rattle.law_rewards.{specs.StateLaws.{ReachedIsBracketed, ReachedHasShortfallWithin}, proofs.Following.own_addr}
 use Rattle.law_rewards.proofs.Denominations.{step_parts, money_at, reward_goes}
 use Rattle.law_rewards.proofs.Entries.{pair_is, put_there, one_passes, history_behind}
 use Rattle.law_rewards.proofs.Reached.{deeds_lead_on, rewards_are_bracketed, shortfall_is_bounded}
+use Rattle.law_rewards.specs.Account as deed
 
 -- ---- what the end of a period gives
 

@@ -1,15 +1,12 @@
 -- The coins of a fair withdrawal, beside the ideal reward.
 use Rattle.std.proofs.Common.{◌≡◌, ℕ, ◌+◌, ◌*◌, ◌/◌, ◌^◌, ◌<◌, ◌≤◌, List, refl, arith, min, mul-le-mul, mul-le-mul_right}
 use Rattle.base_decimals.specs.Decimals.{trunc_of}
-use Rattle.base_coins.specs.Coins.{Money, IsMoney, amount_of}
-use Rattle.base_coins.proofs.Amounts.{amount-all}
-use Rattle.base_coins.proofs.Order.{rises_from_money}
+use Rattle.base_coins.{specs.Coins.{Money, IsMoney, amount_of}, proofs.{Amounts.amount-all, Order.rises_from_money}}
 use Rattle.base_coins.proofs.Results.{smaller_is_money}
 use Rattle.base_roles.specs.Log.{Log}
 use Rattle.rule_modules.specs.Ideal.{Brackets, ideal_reward, slack_of}
 use Rattle.law_rewards.specs.Withdrawals.{IsFairReward, reward_paid, coins_paid, IsCloseToIdeal}
-use Rattle.law_rewards.specs.WithdrawalLaws.{FairPaymentsAreClose}
-use Rattle.law_rewards.proofs.Rounding.{floor_low, floor_high}
+use Rattle.law_rewards.{specs.WithdrawalLaws.FairPaymentsAreClose, proofs.Rounding.{floor_low, floor_high}}
 use Rattle.law_rewards.proofs.Unfair.{smaller_amount}
 
 at_most_times : (c n i by u : ℕ) → c * u ≤ n → n * by ≤ i * u → c * u * by ≤ i * u

@@ -1,43 +1,28 @@
 -- The parts of a block that pay no reward: allocation, the bonded set, and what matures. With votes and evidence, all parts
 -- of a block pay fairly.
-use Rattle.std.proofs.Common.{ℕ, ◌-◌, ◌*◌, ◌^◌, Bool, true, false, List, [], ◌∷◌, ◌++◌, refl, subst, Option, Some, None, Result, Ok, Err, append_assoc}
-use Rattle.std.specs.Prelude.{IfOk, if◌then◌else◌, ◌&&◌, nat_lt, nat_le, map, sum}
+use Rattle.std.proofs.Common.{ℕ, ◌-◌, ◌*◌, ◌^◌, Bool, true, false, List, [], ◌∷◌, ◌++◌, refl, subst, Option, Some, None, Result, Ok, Err, append_assoc, IfOk, if◌then◌else◌, ◌&&◌, nat_lt, nat_le, map, sum}
 use Rattle.std.specs.Map.{values_of}
-use Rattle.base_decimals.specs.declared.over.Over.{Over}
-use Rattle.base_decimals.specs.Decimals.{quo_cut_of}
+use Rattle.base_decimals.specs.{declared.over.Over.Over, Decimals.quo_cut_of}
 use Rattle.base_types.specs.declared.account.Account.TheVariants as account
 use Rattle.base_types.specs.declared.account.Module.TheVariants as holder
-use Rattle.base_types.specs.declared.status.BondStatus.TheVariants.{Bonded, Unbonded}
-use Rattle.base_types.specs.Orders.{addr_cmp}
+use Rattle.base_types.specs.{declared.status.BondStatus.TheVariants.{Bonded, Unbonded}, Orders.addr_cmp}
 use Rattle.base_coins.specs.Coins.{Money, coins_mul_cut, coins_taken}
-use Rattle.base_roles.specs.declared.entities.UnbondingEntry.{UnbondingEntry}
-use Rattle.base_roles.specs.declared.entities.Validator.{Validator}
-use Rattle.base_roles.specs.declared.facts.Fact.{Fact}
+use Rattle.base_roles.specs.declared.{entities.{UnbondingEntry.UnbondingEntry, Validator.Validator}, facts.Fact.Fact}
+use Rattle.base_roles.specs.{declared.messages.Vote.Vote, Entries.with, Holdings.coins_of, Log.Log}
+use Rattle.base_roles.specs.{Staked.{Staked, validator_by_cons}, Flow.{◌>>=◌, each}, World.{View, World, sent}}
 use Rattle.base_roles.specs.declared.facts.Fact.TheVariants as fact
-use Rattle.base_roles.specs.declared.messages.Vote.{Vote}
-use Rattle.base_roles.specs.Entries.{with}
-use Rattle.base_roles.specs.Holdings.{coins_of}
-use Rattle.base_roles.specs.Log.{Log}
 use Rattle.base_roles.specs.Log as log
-use Rattle.base_roles.specs.Staked.{Staked, validator_by_cons}
-use Rattle.base_roles.specs.Flow.{◌>>=◌, each}
-use Rattle.base_roles.specs.World.{View, World, sent}
 use Rattle.rule_modules.specs.Allocation.{share_given, shares_allocated, sharing, allocated, fees_allocated}
 use Rattle.rule_modules.specs.Amounts.{in_units, is_empty, bond_coins}
 use Rattle.rule_modules.specs.BondedSet.{joining_of, leaving_of, tokens_of, difference_moved, joined_set, left_set, set_updated, matured, validators_matured}
 use Rattle.rule_modules.specs.Chain.{Hooks, State, chain_told, staked_in, allocation_step, set_step, maturing_step, unbondings_step, redelegations_step}
-use Rattle.rule_modules.specs.Distribution.{Shared}
-use Rattle.rule_modules.specs.Laws.{next_block}
+use Rattle.rule_modules.specs.{Distribution.Shared, Laws.next_block}
 use Rattle.rule_modules.specs.Purses.{Purses, pool_joined, pooled_told, share_joined, purse_of}
-use Rattle.rule_modules.specs.Stakes.{changed, is_unbonding}
-use Rattle.rule_modules.specs.Unbonding.{removed_if_empty}
-use Rattle.rule_modules.specs.Unbondings.{UnbondingLists, is_mature, paid_back, completed}
-use Rattle.law_rewards.specs.WithdrawalLaws.{BlocksPayFairly}
-use Rattle.law_rewards.proofs.Beginnings.{if_ok}
+use Rattle.rule_modules.specs.{Stakes.{changed, is_unbonding}, Unbonding.removed_if_empty}
+use Rattle.rule_modules.{specs.Unbondings.{UnbondingLists, is_mature, paid_back, completed}, proofs.GoingLemmas.on_bind}
+use Rattle.law_rewards.{specs.WithdrawalLaws.BlocksPayFairly, proofs.Beginnings.if_ok}
 use Rattle.law_rewards.proofs.Paying.{Pays, pays_then, pays_nothing, pays_logged, pays_noted, pays_sent, pays_pooled}
-use Rattle.law_rewards.proofs.Staking.{PaysIn, pays_emptied}
-use Rattle.law_rewards.proofs.Telling.{on_then, fairly, where_reached}
-use Rattle.rule_modules.proofs.GoingLemmas.{on_bind}
+use Rattle.law_rewards.proofs.{Staking.{PaysIn, pays_emptied}, Telling.{on_then, fairly, where_reached}}
 use Rattle.law_rewards.proofs.Hitting.{votes_pay_fairly, evidence_pays_fairly}
 
 -- ---- allocation

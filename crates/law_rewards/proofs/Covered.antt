@@ -1,29 +1,21 @@
 -- The account is a book of holders, and so is covered after each deed.
-use Rattle.std.proofs.Common.{◌≡◌, ℕ, zero, suc, ◌+◌, ◌-◌, ◌*◌, ◌^◌, ◌==◌, ◌<◌, ◌≤◌, Bool, true, false, cond, List, [], ◌∷◌, ◌++◌, length, map, filter, refl, arith, ap, sym, ◌∙◌, subst, Some, min, mul-le-mul_left, le_trans}
-use Rattle.std.specs.Prelude.{sum}
-use Rattle.std.specs.List.{AllByRecursion, slice_get, insert, remove}
+use Rattle.std.proofs.Common.{◌≡◌, ℕ, zero, suc, ◌+◌, ◌-◌, ◌*◌, ◌^◌, ◌==◌, ◌<◌, ◌≤◌, Bool, true, false, cond, List, [], ◌∷◌, ◌++◌, length, map, filter, refl, arith, ap, sym, ◌∙◌, subst, Some, min, mul-le-mul_left, le_trans, sum, slice_get, insert, remove}
+use Rattle.std.specs.List.{AllByRecursion}
 use Rattle.base_coins.specs.Coins.{Money, amount_of}
-use Rattle.base_shares.specs.Shares.{value_cut_of, value_even_of}
-use Rattle.base_shares.specs.Burns.{recorded_fraction}
-use Rattle.base_roles.specs.declared.entities.StartingInfo.{StartingInfo}
-use Rattle.base_roles.specs.declared.entities.SlashEvent.{SlashEvent}
-use Rattle.base_roles.specs.Log.{LogEntry}
+use Rattle.base_shares.specs.{Shares.{value_cut_of, value_even_of}, Burns.recorded_fraction}
+use Rattle.base_roles.specs.{declared.entities.{StartingInfo.StartingInfo, SlashEvent.SlashEvent}, Log.LogEntry}
 use Rattle.base_roles.specs.Log as log
-use Rattle.rule_modules.specs.Amounts.{count_where}
-use Rattle.rule_modules.specs.Ideal.{is_left}
-use Rattle.rule_modules.specs.Laws.{exact_claim, claims_of}
+use Rattle.rule_modules.specs.{Amounts.count_where, Ideal.is_left, Laws.{exact_claim, claims_of}}
 use Rattle.rule_modules.specs.Periods.{Periods, ratio_at, last_ended, event_recorded, stretches_of, unlimited_stretches_of, falls_after, slashed_stake}
 use Rattle.rule_modules.specs.Slashing.{slash_fraction}
 use Rattle.law_rewards.specs.Account.{Start, Account, Deed, IsNextRatio, IsFitting, counted_shares, new_account, account_after, period_closed, account_slashed, start_made, owner_of, payment_of, reward_now, product_cut, ratio_in, earned_in, increment_of, lost_of}
-use Rattle.law_rewards.specs.Account as deed
-use Rattle.law_rewards.specs.Laws.{CoversClaims, IsCutWithin, overclaim}
-use Rattle.law_rewards.proofs.Rounding.{one, floor_low}
+use Rattle.law_rewards.{specs.Laws.{CoversClaims, IsCutWithin, overclaim}, proofs.Rounding.{one, floor_low}}
 use Rattle.law_rewards.proofs.Lists.{all_map, sum_more, all_within, some_at}
 use Rattle.law_rewards.proofs.Walking.{Walk, walk_of, first_walk, walk, crossed, walk_of_behind, walk_of_none, claim_is, earned_is}
-use Rattle.law_rewards.proofs.Following.{Follows, ratio_old, last_ratio, walk_ended, fraction_is}
-use Rattle.law_rewards.proofs.Deeds.{Good}
+use Rattle.law_rewards.proofs.{Following.{Follows, ratio_old, last_ratio, walk_ended, fraction_is}, Deeds.Good}
 use Rattle.law_rewards.proofs.Holders.{Holder, claim_of, shares_of, Book, total, Covers, raised, slashed}
 use Rattle.law_rewards.proofs.Covering.{covers_ends, covers_slashes, covers_issues, covers_removes, covers_allocates, started, covers_starts, covers_stops, covers_takes}
+use Rattle.law_rewards.specs.Account as deed
 
 -- a start as a holder
 abbrev pub holder_of : List ℕ → Periods → Start → Holder

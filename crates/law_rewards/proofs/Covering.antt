@@ -1,16 +1,12 @@
 -- After each act on a book: how far stakes are above shares, and what outstanding covers.
-use Rattle.std.proofs.Common.{◌≡◌, ℕ, zero, suc, ◌+◌, ◌-◌, ◌*◌, ◌<◌, ◌≤◌, List, [], map, refl, arith, ap, sym, ◌∙◌, min, mul-le-mul, mul-le-mul_right, mul-le-mul_left, le_of_mul-le-mul_right, inl, inr, Ok, Some}
-use Rattle.std.specs.List.{slice_get, insert, remove}
-use Rattle.std.proofs.Math.Nat.{le_of_mul-le-mul_left}
-use Rattle.std.proofs.lemmas.Bool.{cases_lt}
-use Rattle.base_shares.specs.Shares.{issued_shares, value_cut_of, amount_out}
-use Rattle.base_shares.specs.Burns.{recorded_fraction}
+use Rattle.std.proofs.Common.{◌≡◌, ℕ, zero, suc, ◌+◌, ◌-◌, ◌*◌, ◌<◌, ◌≤◌, List, [], map, refl, arith, ap, sym, ◌∙◌, min, mul-le-mul, mul-le-mul_right, mul-le-mul_left, le_of_mul-le-mul_right, inl, inr, Ok, Some, slice_get, insert, remove}
+use Rattle.std.proofs.{Math.Nat.le_of_mul-le-mul_left, lemmas.Bool.cases_lt}
+use Rattle.base_shares.specs.{Shares.{issued_shares, value_cut_of, amount_out}, Burns.recorded_fraction}
 use Rattle.base_shares.proofs.Fractions.{fraction_low, fraction_high, fraction_most}
 use Rattle.base_shares.proofs.Issues.{issued_first, issued_most}
 use Rattle.rule_modules.specs.Periods.{slashed_stake}
 use Rattle.law_rewards.specs.Account.{increment_of, lost_of}
-use Rattle.law_rewards.proofs.Rounding.{one, one_pos, floor_low, value_cut_low, increment_low}
-use Rattle.law_rewards.proofs.Steps.{fraction_gap}
+use Rattle.law_rewards.proofs.{Rounding.{one, one_pos, floor_low, value_cut_low, increment_low}, Steps.fraction_gap}
 use Rattle.law_rewards.proofs.Following.{issued_some, left_fall}
 use Rattle.law_rewards.proofs.Holders.{Holder, claim_of, shares_of, stake_of, excess, Book, total, IsCovered, Covers, raised, slashed, total_le, total_map, total_insert, total_remove, excess_scaled}
 

@@ -1,46 +1,26 @@
 -- Creating a validator keeps accounts reached: its own is that of a new one, and its operator delegates to it.
-use Rattle.std.proofs.Common.{◌≡◌, ℕ, ◌==◌, Bool, true, false, cond, List, [], ◌∷◌, ◌++◌, map, filter, refl, sym, ap, subst, ◌∙◌, Option, Some, None, Result, Ok}
-use Rattle.std.specs.Prelude.{unwrap_or, is_some, nat_lt, IsSome, ⊤, ◌&&◌}
-use Rattle.std.specs.List.{slice_get}
-use Rattle.std.specs.Map.{lookup}
-use Rattle.std.specs.BTreeMap.{is_at}
-use Rattle.std.proofs.lemmas.List.Elements.{recursion_from_All}
+use Rattle.std.proofs.Common.{◌≡◌, ℕ, ◌==◌, Bool, true, false, cond, List, [], ◌∷◌, ◌++◌, map, filter, refl, sym, ap, subst, ◌∙◌, Option, Some, None, Result, Ok, unwrap_or, is_some, nat_lt, IsSome, ◌&&◌, slice_get}
+use Rattle.std.{specs.{Prelude.⊤, Map.lookup, BTreeMap.is_at}, proofs.lemmas.List.Elements.recursion_from_All}
 use Rattle.std.proofs.lemmas.Map.Entries.{place_from_lookup}
-use Rattle.base_coins.specs.Coins.{IsMoney, amount_of}
-use Rattle.base_coins.proofs.Order.{money-nil}
-use Rattle.base_roles.specs.declared.entities.StartingInfo.{StartingInfo}
-use Rattle.base_roles.specs.declared.entities.Validator.{Validator}
-use Rattle.base_roles.specs.declared.messages.CreateValidator.{CreateValidator}
-use Rattle.base_roles.specs.declared.refusal.Refusal.{Refusal}
+use Rattle.base_coins.{specs.Coins.{IsMoney, amount_of}, proofs.Order.money-nil}
+use Rattle.base_roles.specs.declared.entities.{StartingInfo.StartingInfo, Validator.Validator}
+use Rattle.base_roles.specs.declared.{messages.CreateValidator.CreateValidator, refusal.Refusal.Refusal}
 use Rattle.base_roles.specs.declared.refusal.Refusal.TheVariants.{WrongDenom, NonPositive, CommissionRange, MinSelfNotPositive, SelfBelowMinimum, CommissionBelowMinimum, ValidatorExists, ConsKeyExists, Overflow}
-use Rattle.base_roles.specs.Items.{no_purse}
-use Rattle.base_roles.specs.Log.{Log}
-use Rattle.base_roles.specs.Log as log
-use Rattle.base_roles.specs.Orders.{pair_cmp, same_addr}
+use Rattle.base_roles.specs.{Items.no_purse, Log.Log, Orders.{pair_cmp, same_addr}}
 use Rattle.base_roles.specs.Staked.{Staked, validator_at, validator_by_cons, delegation, put_validator}
-use Rattle.base_roles.specs.Flow.{◌>>=◌, ◌>>◌, stop_if, stopping}
-use Rattle.base_roles.specs.World.{World}
+use Rattle.base_roles.specs.{Flow.{◌>>=◌, ◌>>◌, stop_if, stopping}, World.World}
+use Rattle.base_roles.specs.Log as log
 use Rattle.rule_modules.proofs.OrderLemmas.{pair_found, same_itself}
 use Rattle.rule_modules.specs.Chain.{Hooks, State, chain_told, staked_in, with_staked}
-use Rattle.rule_modules.specs.Delegating.{wallet, is_wrong, delegated}
-use Rattle.rule_modules.specs.Distribution.{records_made}
-use Rattle.rule_modules.specs.Effects.{create_validator}
-use Rattle.rule_modules.specs.Periods.{initial_records, start_of}
-use Rattle.rule_modules.specs.Sound.{IsSound}
+use Rattle.rule_modules.specs.{Delegating.{wallet, is_wrong, delegated}, Distribution.records_made}
+use Rattle.rule_modules.specs.{Effects.create_validator, Periods.{initial_records, start_of}, Sound.IsSound}
 use Rattle.rule_modules.specs.Validators.{new_validator, are_out_of_range, stored, created}
-use Rattle.law_rewards.specs.Account.{Account, Start, IsReached, new_account}
-use Rattle.law_rewards.specs.States.{account_in, AreReached}
-use Rattle.law_rewards.specs.StateLaws.{ReachedStays}
-use Rattle.law_rewards.specs.Changes.{CreatingKeepsReached}
-use Rattle.law_rewards.proofs.Lists.{all_at}
+use Rattle.law_rewards.specs.{Account.{Account, Start, IsReached, new_account}, States.{account_in, AreReached}}
+use Rattle.law_rewards.{specs.{StateLaws.ReachedStays, Changes.CreatingKeepsReached}, proofs.Lists.all_at}
 use Rattle.law_rewards.proofs.Denominations.{step_parts}
 use Rattle.law_rewards.proofs.Entries.{addr_is, pair_is, put_there, put_elsewhere, history_behind, history_elsewhere}
-use Rattle.law_rewards.proofs.Reached.{new_is_reached}
-use Rattle.law_rewards.proofs.Claims.{IsReady, AreLists}
-use Rattle.law_rewards.proofs.Endings.{same_account, same_some}
-use Rattle.law_rewards.proofs.Beginnings.{if_ok}
-use Rattle.law_rewards.proofs.Quiet.{same_ok, passed}
-use Rattle.law_rewards.proofs.Hooked.{none_of, opened}
+use Rattle.law_rewards.proofs.{Reached.new_is_reached, Claims.{IsReady, AreLists}, Endings.{same_account, same_some}}
+use Rattle.law_rewards.proofs.{Beginnings.if_ok, Quiet.{same_ok, passed}, Hooked.{none_of, opened}}
 use Rattle.law_rewards.proofs.Growing.{not_stopped, apart_back, delegated_reached}
 
 -- ---- where no validator stands

@@ -1,14 +1,13 @@
 -- What holds of all starts, after each deed.
-use Rattle.std.proofs.Common.{◌≡◌, ℕ, zero, suc, ◌+◌, ◌-◌, ◌^◌, ◌<◌, ◌≤◌, ◌≢◌, List, [], ◌∷◌, length, refl, arith, sym, subst, Some}
-use Rattle.std.specs.List.{AllByRecursion, slice_get, insert, remove}
+use Rattle.std.proofs.Common.{◌≡◌, ℕ, zero, suc, ◌+◌, ◌-◌, ◌^◌, ◌<◌, ◌≤◌, ◌≢◌, List, [], ◌∷◌, length, refl, arith, sym, subst, Some, slice_get, insert, remove}
+use Rattle.std.specs.List.{AllByRecursion}
 use Rattle.base_coins.specs.Coins.{Money, amount_of}
 use Rattle.base_roles.specs.declared.entities.SlashEvent.{SlashEvent}
-use Rattle.rule_modules.specs.Periods.{last_ended}
-use Rattle.rule_modules.specs.Slashing.{slash_fraction}
+use Rattle.rule_modules.specs.{Periods.last_ended, Slashing.slash_fraction}
 use Rattle.law_rewards.specs.Account.{Start, Account, Deed, IsNextRatio, IsFitting, counted_shares, new_account, account_after, period_closed, account_slashed, start_made, owner_of, payment_of}
-use Rattle.law_rewards.specs.Account as deed
 use Rattle.law_rewards.proofs.Lists.{all_map, all_map_two, all_insert, all_remove, all_behind, all_within, all_at, some_at}
 use Rattle.law_rewards.proofs.Following.{Follows, block_follows, allocated, allocation_follows, end_follows, slash_follows, issue_follows, left, removal_follows, begun, other_follows, own_follows, withdrawn_follows, paid_follows}
+use Rattle.law_rewards.specs.Account as deed
 
 -- nobody has two starts
 abbrev pub AreApart : List Start → Type 0

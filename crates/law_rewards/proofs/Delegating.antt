@@ -1,32 +1,21 @@
 -- The messages that delegate, and the mature entries of a block, keep accounts reached.
-use Rattle.std.proofs.Common.{◌≡◌, ℕ, ◌==◌, Bool, true, false, List, [], ◌∷◌, refl, sym, subst, ◌∙◌, Some, Result, Ok}
-use Rattle.std.specs.Prelude.{if◌then◌else◌, nat_lt, find, ⊤}
+use Rattle.std.proofs.Common.{◌≡◌, ℕ, ◌==◌, Bool, true, false, List, [], ◌∷◌, refl, sym, subst, ◌∙◌, Some, Result, Ok, if◌then◌else◌, nat_lt, find}
+use Rattle.std.specs.Prelude.{⊤}
 use Rattle.base_coins.specs.declared.coin.Coin.{Coin}
 use Rattle.base_types.specs.declared.status.BondStatus.TheVariants.{Unbonded}
 use Rattle.base_shares.specs.Shares.{has_invalid_rate}
-use Rattle.base_roles.specs.declared.entities.UnbondingEntry.{UnbondingEntry}
-use Rattle.base_roles.specs.declared.entities.Validator.{Validator}
+use Rattle.base_roles.specs.declared.entities.{UnbondingEntry.UnbondingEntry, Validator.Validator}
 use Rattle.base_roles.specs.declared.refusal.Refusal.{Refusal}
 use Rattle.base_roles.specs.declared.refusal.Refusal.TheVariants.{WrongDenom, NonPositive, NoValidator, RateInvalid, Jailed, NoEntry, CancelTooMuch}
-use Rattle.base_roles.specs.Staked.{Staked, validator_at}
-use Rattle.base_roles.specs.Flow.{◌>>=◌, ◌>>◌, stop_if, or_stop}
-use Rattle.base_roles.specs.World.{View, World}
+use Rattle.base_roles.specs.{Staked.{Staked, validator_at}, Flow.{◌>>=◌, ◌>>◌, stop_if, or_stop}, World.{View, World}}
 use Rattle.rule_modules.specs.Chain.{Hooks, State, chain_told, staked_in, with_staked}
 use Rattle.rule_modules.specs.Delegating.{Origin, wallet, pool, is_wrong, delegated, delegated_by}
-use Rattle.rule_modules.specs.Effects.{delegate, cancel_unbonding}
-use Rattle.rule_modules.specs.Sound.{IsSound}
+use Rattle.rule_modules.specs.{Effects.{delegate, cancel_unbonding}, Sound.IsSound}
 use Rattle.rule_modules.specs.Unbondings.{UnbondingLists, entries_of, with_entries, lowered, can_be_cancelled, is_mature, cancelled, completed, paid_back}
-use Rattle.law_rewards.specs.States.{account_in, AreReached}
-use Rattle.law_rewards.specs.StateLaws.{ReachedStays}
-use Rattle.law_rewards.specs.Account.{IsReached}
+use Rattle.law_rewards.specs.{States.{account_in, AreReached}, StateLaws.ReachedStays, Account.IsReached}
 use Rattle.law_rewards.specs.Changes.{DelegatingKeepsReached, CancellingKeepsReached, UnbondingsStepKeepsReached, RedelegationsStepKeepsReached}
-use Rattle.law_rewards.proofs.Denominations.{step_parts}
-use Rattle.law_rewards.proofs.Beginnings.{if_ok}
-use Rattle.law_rewards.proofs.Edits.{found_own}
-use Rattle.law_rewards.proofs.Quiet.{same_ok, passed}
-use Rattle.law_rewards.proofs.Claims.{ready_in}
-use Rattle.law_rewards.proofs.Hooked.{opened}
-use Rattle.law_rewards.proofs.Growing.{delegated_reached}
+use Rattle.law_rewards.proofs.{Denominations.step_parts, Beginnings.if_ok, Edits.found_own, Quiet.{same_ok, passed}}
+use Rattle.law_rewards.proofs.{Claims.ready_in, Hooked.opened, Growing.delegated_reached}
 
 -- ---- delegating
 

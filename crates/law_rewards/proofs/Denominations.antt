@@ -1,21 +1,14 @@
 -- In each denomination, the reward in coins is the reward in that denomination.
-use Rattle.std.proofs.Common.{◌≡◌, ℕ, ◌+◌, ◌-◌, ◌==◌, Bool, true, false, cond, List, [], ◌∷◌, map, arith, ap, sym, ◌∙◌, subst, Ok}
-use Rattle.std.specs.Prelude.{nat_le}
-use Rattle.std.specs.List.{AllByRecursion}
-use Rattle.std.proofs.lemmas.Grind.{common_steps}
-use Rattle.std.proofs.lemmas.List.Elements.{recursion_from_All}
+use Rattle.std.proofs.Common.{◌≡◌, ℕ, ◌+◌, ◌-◌, ◌==◌, Bool, true, false, cond, List, [], ◌∷◌, map, arith, ap, sym, ◌∙◌, subst, Ok, nat_le}
+use Rattle.std.{specs.List.AllByRecursion, proofs.lemmas.{Grind.common_steps, List.Elements.recursion_from_All}}
 use Rattle.base_decimals.specs.Decimals.{mul_cut_of}
 use Rattle.base_coins.specs.Coins.{Money, IsMoney, amount_of, coins_taken, coins_added, coins_mul_cut}
-use Rattle.base_coins.proofs.Order.{rises_from_money, money-nil}
-use Rattle.base_coins.proofs.Amounts.{amount-all, amount-by, amount-added}
-use Rattle.base_coins.proofs.Results.{sum_is_money, taken_is_money}
-use Rattle.base_coins.proofs.Parts.{by_is_money, below_is, zero_mul_cut}
-use Rattle.base_roles.specs.Flow.{◌>>=◌}
-use Rattle.base_roles.specs.declared.entities.StartingInfo.{StartingInfo}
+use Rattle.base_coins.proofs.{Order.{rises_from_money, money-nil}, Amounts.{amount-all, amount-by, amount-added}}
+use Rattle.base_coins.proofs.{Results.{sum_is_money, taken_is_money}, Parts.{by_is_money, below_is, zero_mul_cut}}
+use Rattle.base_roles.specs.{Flow.{◌>>=◌}, declared.entities.StartingInfo.StartingInfo}
 use Rattle.rule_modules.specs.Periods.{Periods, Stretch, ratio_at, earned, stretches_of, reward_of}
 pub use Rattle.rule_modules.proofs.GoingLemmas.{step_parts}
-use Rattle.law_rewards.specs.Account.{product_cut, earned_in, reward_in, ratio_in}
-use Rattle.law_rewards.specs.Laws.{RewardsGoByDenomination}
+use Rattle.law_rewards.specs.{Account.{product_cut, earned_in, reward_in, ratio_in}, Laws.RewardsGoByDenomination}
 use Rattle.law_rewards.proofs.Lists.{sum_more}
 
 pub product_is : (n by m : ℕ) → mul_cut_of n by ≡ Ok m → m ≡ product_cut n by

@@ -1,35 +1,23 @@
 -- Messages that change a validator's record, and not its tokens and shares, keep accounts reached.
-use Rattle.std.proofs.Common.{◌≡◌, ℕ, ◌+◌, ◌-◌, Bool, true, false, List, [], refl, sym, ap, subst, ◌∙◌, Option, Some, None, Result, Ok, Err}
-use Rattle.std.specs.Prelude.{not, nat_lt, nat_le, ⊤}
+use Rattle.std.proofs.Common.{◌≡◌, ℕ, ◌+◌, ◌-◌, Bool, true, false, List, [], refl, sym, ap, subst, ◌∙◌, Option, Some, None, Result, Ok, Err, not, nat_lt, nat_le}
+use Rattle.std.specs.Prelude.{⊤}
 use Rattle.base_coins.specs.Coins.{amount_of}
 use Rattle.base_decimals.specs.Decimals.{trunc_of}
 use Rattle.base_shares.specs.Shares.{value_even_of}
-use Rattle.base_roles.specs.declared.entities.Validator.{Validator}
-use Rattle.base_roles.specs.declared.messages.EditValidator.{EditValidator}
-use Rattle.base_roles.specs.declared.facts.Fact.TheVariants as fact
+use Rattle.base_roles.specs.declared.{entities.Validator.Validator, messages.EditValidator.EditValidator}
 use Rattle.base_roles.specs.declared.refusal.Refusal.{Refusal}
 use Rattle.base_roles.specs.declared.refusal.Refusal.TheVariants.{NoValidator, NoSelfDelegation, SelfBelowMinimum, NotJailed, CommissionTooSoon, CommissionAboveMax, CommissionStep, CommissionBelowMinimum, MinSelfNotRaised}
-use Rattle.base_roles.specs.Orders.{same_addr}
-use Rattle.base_roles.specs.Staked.{Staked, validator_at, delegation, put_validator}
-use Rattle.base_roles.specs.Flow.{◌>>=◌, ◌>>◌, stop_if, or_stop}
-use Rattle.base_roles.specs.World.{View, over_view, over_mine, noted}
-use Rattle.rule_modules.specs.Amounts.{seconds}
-use Rattle.rule_modules.specs.Chain.{State}
-use Rattle.rule_modules.specs.Effects.{edit_validator, unjail}
-use Rattle.rule_modules.specs.Ideal.{history_of}
-use Rattle.rule_modules.specs.Periods.{periods_of}
-use Rattle.rule_modules.specs.Purses.{purse_of}
-use Rattle.rule_modules.specs.Sound.{IsSound}
+use Rattle.base_roles.specs.{Orders.same_addr, Staked.{Staked, validator_at, delegation, put_validator}}
+use Rattle.base_roles.specs.{Flow.{◌>>=◌, ◌>>◌, stop_if, or_stop}, World.{View, over_view, over_mine, noted}}
+use Rattle.base_roles.specs.declared.facts.Fact.TheVariants as fact
+use Rattle.rule_modules.specs.{Amounts.seconds, Chain.State, Effects.{edit_validator, unjail}, Ideal.history_of}
+use Rattle.rule_modules.specs.{Periods.periods_of, Purses.purse_of, Sound.IsSound}
 use Rattle.rule_modules.specs.Validators.{edit_formed, rate_edited, minimum_edited, edited}
 use Rattle.rule_modules.specs.Window.{unjailed, may_leave, signing_of}
-use Rattle.law_rewards.specs.Account.{Account, IsReached}
-use Rattle.law_rewards.specs.States.{starts_in, account_in, AreReached}
-use Rattle.law_rewards.specs.StateLaws.{ReachedStays, StandingMessagesKeepReached}
-use Rattle.law_rewards.proofs.Denominations.{step_parts}
-use Rattle.law_rewards.proofs.Entries.{addr_is, put_there, put_elsewhere}
-use Rattle.law_rewards.proofs.Endings.{same_some}
-use Rattle.law_rewards.proofs.Beginnings.{found_is, if_ok, under_own}
-use Rattle.law_rewards.proofs.Quiet.{same_ok}
+use Rattle.law_rewards.specs.{Account.{Account, IsReached}, States.{starts_in, account_in, AreReached}}
+use Rattle.law_rewards.{specs.StateLaws.{ReachedStays, StandingMessagesKeepReached}, proofs.Denominations.step_parts}
+use Rattle.law_rewards.proofs.{Entries.{addr_is, put_there, put_elsewhere}, Endings.same_some}
+use Rattle.law_rewards.proofs.{Beginnings.{found_is, if_ok, under_own}, Quiet.same_ok}
 
 -- a validator that stands as another did
 pub record StandsAs (v old : Validator) : Type 0 where

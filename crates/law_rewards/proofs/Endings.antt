@@ -1,35 +1,26 @@
 -- The end of a validator's period, as a step of a state, is its deed; every other account stays.
-use Rattle.std.proofs.Common.{◌≡◌, ℕ, ◌-◌, ◌*◌, ◌^◌, ◌≤◌, ◌≢◌, Bool, true, false, List, [], ◌∷◌, ◌++◌, refl, arith, sym, ap, subst, ◌∙◌, Option, Some, Result, Ok}
-use Rattle.std.specs.Prelude.{unwrap_or, is_some}
+use Rattle.std.proofs.Common.{◌≡◌, ℕ, ◌-◌, ◌*◌, ◌^◌, ◌≤◌, ◌≢◌, Bool, true, false, List, [], ◌∷◌, ◌++◌, refl, arith, sym, ap, subst, ◌∙◌, Option, Some, Result, Ok, unwrap_or, is_some}
 use Rattle.std.proofs.lemmas.List.Elements.{recursion_from_All}
 use Rattle.base_decimals.specs.declared.over.Over.{Over}
 use Rattle.base_types.specs.Orders.{addr_cmp}
 use Rattle.base_coins.specs.Coins.{amount_of}
 use Rattle.base_shares.specs.Shares.{value_even_of}
-use Rattle.base_roles.specs.declared.entities.StartingInfo.{StartingInfo}
-use Rattle.base_roles.specs.declared.entities.Validator.{Validator}
-use Rattle.base_roles.specs.Entries.{at}
-use Rattle.base_roles.specs.Items.{no_purse}
-use Rattle.base_roles.specs.Log.{Log, LogEntry}
-use Rattle.base_roles.specs.Log as log
-use Rattle.base_roles.specs.Orders.{same_addr}
-use Rattle.base_roles.specs.Staked.{validator_at, delegation}
+use Rattle.base_roles.specs.{declared.entities.{StartingInfo.StartingInfo, Validator.Validator}, Entries.at}
+use Rattle.base_roles.specs.{Items.no_purse, Log.{Log, LogEntry}, Orders.same_addr, Staked.{validator_at, delegation}}
 use Rattle.base_roles.specs.World.{View}
-use Rattle.rule_modules.specs.Chain.{State, with_shared}
-use Rattle.rule_modules.specs.Distribution.{Shared, ended}
+use Rattle.base_roles.specs.Log as log
+use Rattle.rule_modules.specs.{Chain.{State, with_shared}, Distribution.{Shared, ended}}
 use Rattle.rule_modules.specs.Ideal.{history_of, overclaim_of}
 use Rattle.rule_modules.specs.Periods.{Periods, initial_records, periods_of, start_of, ratio_at, last_ended, reward_at}
-use Rattle.rule_modules.specs.Purses.{purse_of}
-use Rattle.rule_modules.specs.Sound.{IsSound}
+use Rattle.rule_modules.specs.{Purses.purse_of, Sound.IsSound}
 use Rattle.law_rewards.specs.Account.{Start, Account, IsReached, period_closed, reward_now}
-use Rattle.law_rewards.specs.Account as deed
-use Rattle.law_rewards.specs.Laws.{IsCutWithin, overclaim}
-use Rattle.law_rewards.specs.States.{starts_in, account_in, AreReached}
+use Rattle.law_rewards.specs.{Laws.{IsCutWithin, overclaim}, States.{starts_in, account_in, AreReached}}
 use Rattle.law_rewards.specs.StateLaws.{IsClaimCutWithin, ReachedIsCutWithin, NextBlockKeepsReached, EndKeepsReached}
 use Rattle.law_rewards.proofs.Following.{own_addr, other_addr}
 use Rattle.law_rewards.proofs.Entries.{addr_is, put_there, put_elsewhere, history_elsewhere}
 use Rattle.law_rewards.proofs.Reached.{deeds_lead_on, cut_is_bounded}
 use Rattle.law_rewards.proofs.Claims.{IsReady, ready_in, IsEnded, ended_is, periods_with, closed_account, closed_history, closed_reward, some_of, start_with, own_start, claim_parts}
+use Rattle.law_rewards.specs.Account as deed
 
 -- ---- accounts that agree field by field
 

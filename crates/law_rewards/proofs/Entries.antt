@@ -1,21 +1,12 @@
 -- Entries by address and by pairs of addresses, and the history of one validator.
-use Rattle.std.proofs.Common.{◌≡◌, ℕ, Bool, true, false, cond, zero, suc, List, [], ◌∷◌, ◌++◌, ◌<◌, ◌≤◌, length, map, filter, refl, arith, sym, ap, subst, ◌∙◌, Some}
-use Rattle.std.specs.List.{AllByRecursion, slice_get, insert, remove}
-use Rattle.std.specs.Map.{lookup, remove_entry}
-use Rattle.std.specs.BTreeMap.{insert_entry, is_at}
-use Rattle.std.specs.declared.cmp.Ordering.{Ordering}
-use Rattle.std.specs.declared.cmp.Ordering.TheVariants.{Less, Equal, Greater}
-use Rattle.std.specs.Ordering.{is_eq, match_ordering, ordering_then}
-use Rattle.std.proofs.lemmas.Map.Text.{is_eq-slice_cmp}
-use Rattle.std.proofs.lemmas.Slice.Eq.{bytes_eq-Decides}
-use Rattle.base_types.proofs.MapLemmas.{at-put}
-use Rattle.std.proofs.lemmas.Cmp.{nat_list_cmp_total}
-use Rattle.base_types.specs.Orders.{addr_cmp}
-use Rattle.base_roles.specs.Log.{Log, LogEntry}
-use Rattle.base_roles.specs.Orders.{pair_cmp, same_addr}
+use Rattle.std.proofs.Common.{◌≡◌, ℕ, Bool, true, false, cond, zero, suc, List, [], ◌∷◌, ◌++◌, ◌<◌, ◌≤◌, length, map, filter, refl, arith, sym, ap, subst, ◌∙◌, Some, slice_get, insert, remove, Ordering, Less, Equal, Greater, is_eq}
+use Rattle.std.specs.{List.AllByRecursion, Map.{lookup, remove_entry}, BTreeMap.{insert_entry, is_at}}
+use Rattle.std.{specs.Ordering.{match_ordering, ordering_then}, proofs.lemmas.Map.Text.is_eq-slice_cmp}
+use Rattle.std.proofs.lemmas.{Slice.Eq.bytes_eq-Decides, Cmp.nat_list_cmp_total}
+use Rattle.base_types.{proofs.MapLemmas.at-put, specs.Orders.addr_cmp}
+use Rattle.base_roles.specs.{Log.{Log, LogEntry}, Orders.{pair_cmp, same_addr}}
 use Rattle.rule_modules.specs.Ideal.{behind, history_of}
-use Rattle.law_rewards.proofs.Lists.{insert_first}
-use Rattle.law_rewards.proofs.Following.{own_addr}
+use Rattle.law_rewards.proofs.{Lists.insert_first, Following.own_addr}
 
 -- one address
 pub addr_is : (a b : List ℕ) → same_addr a b ≡ true → a ≡ b

@@ -1,13 +1,11 @@
 -- The withdrawal of each payment that is told.
 use Rattle.std.proofs.Common.{◌≡◌, ℕ, List, [], ◌∷◌, ◌++◌, refl, sym, ap, subst, ◌∙◌, append-nil, append_assoc}
 use Rattle.base_coins.specs.Coins.{Money}
-use Rattle.base_roles.specs.declared.facts.Fact.{Fact}
+use Rattle.base_roles.specs.{declared.facts.Fact.Fact, Log.{Log, LogEntry}}
 use Rattle.base_roles.specs.declared.facts.Fact.TheVariants as fact
-use Rattle.base_roles.specs.Log.{Log, LogEntry}
 use Rattle.base_roles.specs.Log as log
 use Rattle.law_rewards.specs.Withdrawals.{IsFairReward, AreInTurn, AreFair, IsSent, reward_paid, coins_paid, payments_in, payments_of}
-use Rattle.law_rewards.specs.Payments.{PaymentsAreFairlyTold}
-use Rattle.law_rewards.proofs.Close.{fair_payments_are_close}
+use Rattle.law_rewards.{specs.Payments.PaymentsAreFairlyTold, proofs.Close.fair_payments_are_close}
 use Rattle.law_rewards.proofs.Paying.{told_joined}
 
 -- what holds of all in turn holds of each

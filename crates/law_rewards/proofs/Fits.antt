@@ -1,53 +1,33 @@
 -- What unbonding shares needs of staking and distribution together, whoever's they are, and leaves again: where one unbonding
 -- comes behind another, as in a redelegation or a slash.
-use Rattle.std.proofs.Common.{◌≡◌, ℕ, ◌-◌, ◌^◌, ◌<◌, ◌≤◌, ◌==◌, Bool, true, false, cond, List, [], ◌∷◌, refl, arith, sym, ap, subst, ◌∙◌, Option, Some, None, Result, Ok}
-use Rattle.std.specs.Prelude.{unwrap_or, is_some, ◌&&◌, ◌||◌, if◌then◌else◌}
-use Rattle.std.specs.List.{AllByRecursion}
-use Rattle.std.specs.List.Sorted.{IsStrictlySortedBy}
-use Rattle.std.specs.Map.{keys_of, remove_entry}
-use Rattle.std.specs.BTreeMap.{is_at}
-use Rattle.std.specs.declared.cmp.Ordering.{Ordering}
-use Rattle.std.specs.declared.cmp.Ordering.TheVariants.{Less}
+use Rattle.std.proofs.Common.{◌≡◌, ℕ, ◌-◌, ◌^◌, ◌<◌, ◌≤◌, ◌==◌, Bool, true, false, cond, List, [], ◌∷◌, refl, arith, sym, ap, subst, ◌∙◌, Option, Some, None, Result, Ok, unwrap_or, is_some, ◌&&◌, ◌||◌, if◌then◌else◌, Ordering, Less}
+use Rattle.std.specs.{List.{AllByRecursion, Sorted.IsStrictlySortedBy}, Map.{keys_of, remove_entry}, BTreeMap.is_at}
 use Rattle.base_decimals.specs.declared.over.Over.{Over}
 use Rattle.base_types.specs.Orders.{addr_cmp}
-use Rattle.base_coins.specs.Coins.{Money, IsMoney, coins_taken, smaller_of, fractions}
-use Rattle.base_coins.proofs.Order.{money-nil}
+use Rattle.base_coins.{specs.Coins.{Money, IsMoney, coins_taken, smaller_of, fractions}, proofs.Order.money-nil}
 use Rattle.base_coins.proofs.Results.{taken_is_money}
 use Rattle.base_shares.specs.Shares.{amount_out, value_cut_of}
-use Rattle.base_roles.specs.declared.entities.Purse.{Purse}
-use Rattle.base_roles.specs.declared.entities.StartingInfo.{StartingInfo}
-use Rattle.base_roles.specs.declared.entities.Validator.{Validator}
-use Rattle.base_roles.specs.declared.facts.Fact.TheVariants as fact
-use Rattle.base_roles.specs.Entries.{at, with, without}
-use Rattle.base_roles.specs.Items.{no_purse}
-use Rattle.base_roles.specs.Log.{Log}
-use Rattle.base_roles.specs.Log as log
-use Rattle.base_roles.specs.Orders.{pair_cmp, same_addr}
+use Rattle.base_roles.specs.declared.entities.{Purse.Purse, StartingInfo.StartingInfo, Validator.Validator}
+use Rattle.base_roles.specs.{Entries.{at, with, without}, Items.no_purse, Log.Log, Orders.{pair_cmp, same_addr}}
 use Rattle.base_roles.specs.Staked.{Staked, validator_at, delegation, put_validator, is_unbonded}
 use Rattle.base_roles.specs.World.{View, World, gives, call, modifying, modified, noted, over_view, over_mine, logged}
+use Rattle.base_roles.specs.declared.facts.Fact.TheVariants as fact
+use Rattle.base_roles.specs.Log as log
 use Rattle.base_roles.specs.World as hook
-use Rattle.rule_modules.proofs.EntryLemmas.{at-put, at-taken, ascend-put}
-use Rattle.rule_modules.proofs.OrderLemmas.{addr_total, pair_total}
-use Rattle.rule_modules.proofs.SoundLemmas.{to_points}
-use Rattle.rule_modules.specs.Chain.{Hooks, State, chain_told, staked_in, with_staked}
+use Rattle.rule_modules.proofs.{EntryLemmas.{at-put, at-taken, ascend-put}, OrderLemmas.{addr_total, pair_total}}
+use Rattle.rule_modules.{proofs.SoundLemmas.to_points, specs.Chain.{Hooks, State, chain_told, staked_in, with_staked}}
 use Rattle.rule_modules.specs.Delegating.{hook_before}
 use Rattle.rule_modules.specs.Distribution.{Shared, distribution_told, ended, started, reward_withdrawn}
 use Rattle.rule_modules.specs.Periods.{Periods, initial_records, periods_of, start_of, last_ended}
-use Rattle.rule_modules.specs.Purses.{Purses, purse_of, with_purse, pool_joined, paid_out}
-use Rattle.rule_modules.specs.Sound.{IsSound}
+use Rattle.rule_modules.specs.{Purses.{Purses, purse_of, with_purse, pool_joined, paid_out}, Sound.IsSound}
 use Rattle.rule_modules.specs.Stakes.{put_delegation, without_shares, without_validator}
 use Rattle.rule_modules.specs.Unbonding.{put_in_jail, falls_below_minimum, left_standing, removed_if_empty, validator_removed, unbonded_shares}
-use Rattle.law_rewards.specs.States.{account_in, AreReached}
-use Rattle.law_rewards.proofs.Denominations.{step_parts}
-use Rattle.law_rewards.proofs.Entries.{addr_is, put_there, put_elsewhere}
-use Rattle.law_rewards.proofs.Reached.{reached_some}
+use Rattle.law_rewards.{specs.States.{account_in, AreReached}, proofs.Denominations.step_parts}
+use Rattle.law_rewards.proofs.{Entries.{addr_is, put_there, put_elsewhere}, Reached.reached_some}
 use Rattle.law_rewards.proofs.Claims.{IsReady, IsEnded, AreLists, ended_is, periods_with, current_at, outstanding_at, lists_at, some_of, start_with, own_start}
-use Rattle.law_rewards.proofs.Payments.{IsWithdrawn, withdrawn_is}
-use Rattle.law_rewards.proofs.Beginnings.{under_own}
-use Rattle.law_rewards.proofs.Quiet.{same_ok, joined_purses}
-use Rattle.law_rewards.proofs.Hooked.{hook_gave, call_parts, answer_of, opened}
-use Rattle.law_rewards.proofs.Growing.{start_told}
-use Rattle.law_rewards.proofs.Leaving.{RecordsGo, removed_is, addr_taken, less_of}
+use Rattle.law_rewards.proofs.{Payments.{IsWithdrawn, withdrawn_is}, Beginnings.under_own}
+use Rattle.law_rewards.proofs.{Quiet.{same_ok, joined_purses}, Hooked.{hook_gave, call_parts, answer_of, opened}}
+use Rattle.law_rewards.proofs.{Growing.start_told, Leaving.{RecordsGo, removed_is, addr_taken, less_of}}
 use Rattle.law_rewards.proofs.Undelegating.{left_then, leaving, unbonded_reached}
 
 -- ---- what stands at a key

@@ -1,33 +1,23 @@
 -- What each start's records, span and ideal have to do with each other, after each deed.
-use Rattle.std.proofs.Common.{◌≡◌, ℕ, ◌+◌, ◌-◌, ◌*◌, ◌==◌, ◌<◌, ◌≤◌, ◌≢◌, Bool, true, false, cond, List, [], ◌∷◌, ◌++◌, refl, arith, ap, sym, ◌∙◌, subst, Option, Some, None, Ok, min, inl, inr}
-use Rattle.std.specs.List.{AllByRecursion, insert}
-use Rattle.std.proofs.lemmas.Bool.{cases_eq}
-use Rattle.std.proofs.lemmas.Grind.{common_steps}
-use Rattle.std.proofs.lemmas.Map.Text.{is_eq-slice_cmp}
+use Rattle.std.proofs.Common.{◌≡◌, ℕ, ◌+◌, ◌-◌, ◌*◌, ◌==◌, ◌<◌, ◌≤◌, ◌≢◌, Bool, true, false, cond, List, [], ◌∷◌, ◌++◌, refl, arith, ap, sym, ◌∙◌, subst, Option, Some, None, Ok, min, inl, inr, insert, filter}
+use Rattle.std.{specs.List.AllByRecursion, proofs.lemmas.{Bool.cases_eq, Grind.common_steps, Map.Text.is_eq-slice_cmp}}
 use Rattle.std.proofs.lemmas.Slice.Eq.{bytes_eq-Decides}
 use Rattle.base_coins.specs.Coins.{Money, amount_of}
 use Rattle.base_shares.specs.Shares.{issued_shares, value_cut_of, value_even_of, amount_out}
-use Rattle.base_shares.specs.Burns.{recorded_fraction, ratio_of}
-use Rattle.base_shares.proofs.Fractions.{fraction_most}
-use Rattle.base_shares.proofs.Issues.{issued_most}
+use Rattle.base_shares.{specs.Burns.{recorded_fraction, ratio_of}, proofs.{Fractions.fraction_most, Issues.issued_most}}
 use Rattle.base_decimals.specs.Fractions.{Fraction}
-use Rattle.base_roles.specs.declared.entities.StartingInfo.{StartingInfo}
-use Rattle.base_roles.specs.declared.entities.SlashEvent.{SlashEvent}
-use Rattle.base_roles.specs.Log.{LogEntry}
-use Rattle.base_roles.specs.Log as log
+use Rattle.base_roles.specs.{declared.entities.{StartingInfo.StartingInfo, SlashEvent.SlashEvent}, Log.LogEntry}
 use Rattle.base_roles.specs.Orders.{same_addr}
+use Rattle.base_roles.specs.Log as log
 use Rattle.rule_modules.specs.Ideal.{Span, Ideal, Brackets, span_with, span_of, ideal_start, ideal_after, ideal_over, ideal_of}
-use Rattle.rule_modules.specs.Periods.{Periods, ratio_at, last_ended, event_recorded, stretches_of, slashed_stake}
+use Rattle.rule_modules.specs.Periods.{Periods, ratio_at, last_ended, event_recorded, stretches_of, slashed_stake, falls_after}
 use Rattle.rule_modules.specs.Slashing.{slash_fraction}
 use Rattle.law_rewards.specs.Account.{Start, Account, product_cut, ratio_in, earned_in, increment_of, IsNextRatio, period_closed, account_slashed, start_made, reward_now}
-use Rattle.law_rewards.proofs.Rounding.{one, floor_low, value_even_high}
-use Rattle.law_rewards.proofs.Steps.{issue_value, leave_value, leave_fall}
+use Rattle.law_rewards.proofs.{Rounding.{one, floor_low, value_even_high}, Steps.{issue_value, leave_value, leave_fall}}
 use Rattle.law_rewards.proofs.Exact.{Reckoned, stretch_paid, reckoned_reward, Exact, exact_start, exact_allocated, exact_slashed}
 use Rattle.law_rewards.proofs.Keeping.{Keeps, keeps_allocates, keeps_ends, keeps_slashes, keeps_pool, keeps_start, Bounds, bounds}
 use Rattle.law_rewards.proofs.Standing.{Stands, stands_allocated, stands_ended, stands_left, stands_slashed, stands_start, brackets_from}
 use Rattle.law_rewards.proofs.Walking.{Walk, first_walk, walk_of, walk_same, walk_of_behind, walk_of_none, all_filter, earned_is}
-use Rattle.rule_modules.specs.Periods.{falls_after}
-use Rattle.std.specs.Prelude.{filter}
 
 -- w is the walk over the records
 pub record Agrees (d : List ℕ) (p : Periods) (w : Walk) (r : Reckoned) : Type 0 where

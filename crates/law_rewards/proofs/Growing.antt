@@ -1,41 +1,28 @@
 -- Tokens and shares that come to a validator, and the start behind them: delegating keeps accounts reached.
-use Rattle.std.proofs.Common.{◌≡◌, ℕ, ◌+◌, ◌<◌, ◌≤◌, ◌≢◌, ◌==◌, Bool, true, false, cond, List, [], ◌∷◌, map, filter, refl, arith, sym, ap, subst, ◌∙◌, Option, Some, Result, Ok, Err}
-use Rattle.std.specs.Prelude.{unwrap_or, ◌&&◌, if◌then◌else◌}
-use Rattle.std.specs.List.{AllByRecursion}
-use Rattle.std.proofs.lemmas.Bool.Decides.{nat_tests}
+use Rattle.std.proofs.Common.{◌≡◌, ℕ, ◌+◌, ◌<◌, ◌≤◌, ◌≢◌, ◌==◌, Bool, true, false, cond, List, [], ◌∷◌, map, filter, refl, arith, sym, ap, subst, ◌∙◌, Option, Some, Result, Ok, Err, unwrap_or, ◌&&◌, if◌then◌else◌}
+use Rattle.std.{specs.List.AllByRecursion, proofs.lemmas.Bool.Decides.nat_tests}
 use Rattle.base_decimals.specs.Decimals.{add_of}
 use Rattle.base_types.specs.declared.account.Account.TheVariants as account
-use Rattle.base_types.specs.declared.status.BondStatus.{BondStatus}
-use Rattle.base_types.specs.Modules.{module_number}
+use Rattle.base_types.specs.{declared.status.BondStatus.BondStatus, Modules.module_number}
 use Rattle.base_shares.specs.Shares.{issued_shares}
-use Rattle.base_roles.specs.declared.entities.Validator.{Validator}
-use Rattle.base_roles.specs.declared.refusal.Refusal.{Refusal}
+use Rattle.base_roles.specs.declared.{entities.Validator.Validator, refusal.Refusal.Refusal}
 use Rattle.base_roles.specs.declared.refusal.Refusal.TheVariants.{InsufficientFunds, TinyDelegation, Overflow}
-use Rattle.base_roles.specs.Holdings.{is_short}
-use Rattle.base_roles.specs.Log.{Log}
-use Rattle.base_roles.specs.Orders.{pair_cmp, same_addr}
+use Rattle.base_roles.specs.{Holdings.is_short, Log.Log, Orders.{pair_cmp, same_addr}}
 use Rattle.base_roles.specs.Staked.{Staked, validator_at, delegation, put_validator}
 use Rattle.base_roles.specs.Flow.{◌>>=◌, ◌>>◌, stop_if, stopping}
 use Rattle.base_roles.specs.World.{View, Told, gives, World, call, modified, sent, over_view, over_mine}
-use Rattle.rule_modules.proofs.EntryLemmas.{at-put}
-use Rattle.rule_modules.proofs.OrderLemmas.{pair_total, pair_found}
-use Rattle.rule_modules.specs.Amounts.{bond_coins}
+use Rattle.rule_modules.{proofs.{EntryLemmas.at-put, OrderLemmas.{pair_total, pair_found}}, specs.Amounts.bond_coins}
 use Rattle.rule_modules.specs.Chain.{Hooks, State, chain_told, staked_in, with_staked}
 use Rattle.rule_modules.specs.Delegating.{Origin, wallet, pool, shares_given, paid_in, hook_before, delegated}
-use Rattle.rule_modules.specs.Distribution.{Shared, distribution_told, started}
-use Rattle.rule_modules.specs.Periods.{Rewards}
+use Rattle.rule_modules.specs.{Distribution.{Shared, distribution_told, started}, Periods.Rewards}
 use Rattle.rule_modules.specs.Stakes.{put_delegation, pool_of, refusal_of_shares}
 use Rattle.law_rewards.specs.Account.{Start, Account, IsReached, counted_shares, account_after}
-use Rattle.law_rewards.specs.Account as deed
-use Rattle.law_rewards.specs.States.{starts_in, account_in, AreReached}
-use Rattle.law_rewards.proofs.Following.{own_addr, other_addr}
-use Rattle.law_rewards.proofs.Denominations.{step_parts}
-use Rattle.law_rewards.proofs.Entries.{addr_is, put_there, put_elsewhere}
-use Rattle.law_rewards.proofs.Reached.{deeds_lead_on}
-use Rattle.law_rewards.proofs.Endings.{same_account, same_some}
-use Rattle.law_rewards.proofs.Beginnings.{state_begun, begun_reached, went_on}
-use Rattle.law_rewards.proofs.Quiet.{same_ok, passed}
+use Rattle.law_rewards.{specs.States.{starts_in, account_in, AreReached}, proofs.Following.{own_addr, other_addr}}
+use Rattle.law_rewards.proofs.{Denominations.step_parts, Entries.{addr_is, put_there, put_elsewhere}}
+use Rattle.law_rewards.proofs.{Reached.deeds_lead_on, Endings.{same_account, same_some}}
+use Rattle.law_rewards.proofs.{Beginnings.{state_begun, begun_reached, went_on}, Quiet.{same_ok, passed}}
 use Rattle.law_rewards.proofs.Hooked.{hook_gave, call_parts, same_told, IsOpen, HasOpened, state_told, before_is_idle}
+use Rattle.law_rewards.specs.Account as deed
 
 -- ---- starts over other delegations
 

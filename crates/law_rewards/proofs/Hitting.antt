@@ -2,29 +2,20 @@
 -- slash are of what was redelegated, at each target.
 use Rattle.std.proofs.Common.{◌≡◌, ℕ, List, [], ◌∷◌, ◌++◌, refl, subst, Some, Ok}
 use Rattle.base_types.specs.declared.account.Module.TheVariants as holder
-use Rattle.base_roles.specs.declared.entities.Validator.{Validator}
-use Rattle.base_roles.specs.declared.facts.Fact.TheVariants as fact
-use Rattle.base_roles.specs.Log.{Log}
-use Rattle.base_roles.specs.Log as log
-use Rattle.base_roles.specs.Staked.{Staked, delegation}
+use Rattle.base_roles.specs.{declared.entities.Validator.Validator, Log.Log, Staked.{Staked, delegation}}
 use Rattle.base_roles.specs.World.{View, World}
+use Rattle.base_roles.specs.declared.facts.Fact.TheVariants as fact
+use Rattle.base_roles.specs.Log as log
 use Rattle.rule_modules.specs.Chain.{Stakes, chain_told, beside_window, vote_step, evidence_step, staked_in, Hooks, with_window}
-use Rattle.rule_modules.specs.Distribution.{Shared, ended}
-use Rattle.rule_modules.specs.EntrySlashes.{entries_slashed, followed}
-use Rattle.rule_modules.specs.Slashing.{slash_fraction}
-use Rattle.rule_modules.specs.Stakes.{pool_of}
-use Rattle.rule_modules.specs.Unbonding.{unbonded_shares}
-use Rattle.rule_modules.specs.Unbondings.{UnbondingLists}
-use Rattle.rule_modules.specs.Window.{Window}
-use Rattle.law_rewards.specs.WithdrawalLaws.{VotesPayFairly, EvidencePaysFairly}
-use Rattle.law_rewards.proofs.Fits.{ready_fits}
-use Rattle.law_rewards.proofs.Punishing.{Beside, beside_of, stays_beside}
-use Rattle.law_rewards.proofs.Paying.{Pays, pays_then, pays_nothing, pays_logged, pays_noted, pays_burnt, pays_ended}
-use Rattle.law_rewards.proofs.Staking.{PaysIn, pays_unbonded}
-use Rattle.law_rewards.proofs.Telling.{where_reached}
-use Rattle.rule_modules.proofs.GoingLemmas.{weaker_if}
+use Rattle.rule_modules.specs.{Distribution.{Shared, ended}, EntrySlashes.{entries_slashed, followed}}
+use Rattle.rule_modules.specs.{Slashing.slash_fraction, Stakes.pool_of, Unbonding.unbonded_shares}
+use Rattle.rule_modules.{specs.{Unbondings.UnbondingLists, Window.Window}, proofs.GoingLemmas.weaker_if}
 use Rattle.rule_modules.proofs.SlashParts.{GoesThroughPunishing, evidence_goes, target_lost, vote_goes, burnt_with, slash_noted, OwnTarget, own_target, entries_go}
 use Rattle.rule_modules.proofs.BesideLemmas.{raised}
+use Rattle.law_rewards.{specs.WithdrawalLaws.{VotesPayFairly, EvidencePaysFairly}, proofs.Fits.ready_fits}
+use Rattle.law_rewards.proofs.Punishing.{Beside, beside_of, stays_beside}
+use Rattle.law_rewards.proofs.Paying.{Pays, pays_then, pays_nothing, pays_logged, pays_noted, pays_burnt, pays_ended}
+use Rattle.law_rewards.proofs.{Staking.{PaysIn, pays_unbonded}, Telling.where_reached}
 
 -- ---- a validator
 

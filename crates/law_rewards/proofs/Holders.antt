@@ -1,6 +1,5 @@
 -- A validator with all whose rewards run, as numbers, and sums over them.
-use Rattle.std.proofs.Common.{◌≡◌, ℕ, zero, suc, ◌+◌, ◌-◌, ◌*◌, ◌<◌, ◌≤◌, List, [], ◌∷◌, map, refl, arith, ap, mul-le-mul_left, inl, inr, Some}
-use Rattle.std.specs.List.{slice_get, insert, remove}
+use Rattle.std.proofs.Common.{◌≡◌, ℕ, zero, suc, ◌+◌, ◌-◌, ◌*◌, ◌<◌, ◌≤◌, List, [], ◌∷◌, map, refl, arith, ap, mul-le-mul_left, inl, inr, Some, slice_get, insert, remove}
 use Rattle.std.proofs.lemmas.Bool.{cases_lt}
 use Rattle.rule_modules.specs.Periods.{slashed_stake}
 use Rattle.law_rewards.proofs.Rounding.{one}

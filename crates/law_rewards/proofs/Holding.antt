@@ -1,16 +1,15 @@
 -- What is outstanding in a reached account is what its history comes to; so in a state.
-use Rattle.std.proofs.Common.{◌≡◌, ℕ, ◌+◌, ◌-◌, List, [], ◌∷◌, ◌++◌, refl, arith, sym, ap, subst, ◌∙◌, Option, Some, None, min}
-use Rattle.std.specs.List.{slice_get}
+use Rattle.std.proofs.Common.{◌≡◌, ℕ, ◌+◌, ◌-◌, List, [], ◌∷◌, ◌++◌, refl, arith, sym, ap, subst, ◌∙◌, Option, Some, None, min, slice_get}
 use Rattle.base_coins.specs.Coins.{Money, amount_of}
 use Rattle.base_shares.specs.Shares.{value_cut_of}
 use Rattle.base_roles.specs.Log.{LogEntry}
 use Rattle.base_roles.specs.Log as log
 use Rattle.rule_modules.specs.Slashing.{slash_fraction}
 use Rattle.law_rewards.specs.Account.{Start, Account, Deed, IsReached, IsFitting, AreFitting, account_after, account_of, new_account, period_closed, owner_of, full_of, payment_of}
-use Rattle.law_rewards.specs.Account as deed
 use Rattle.law_rewards.specs.States.{account_in}
 use Rattle.law_rewards.specs.Withdrawals.{Outstanding, none_outstanding, outstanding_after, outstanding_over, outstanding_in}
 use Rattle.law_rewards.specs.WithdrawalLaws.{OutstandingIsLogged}
+use Rattle.law_rewards.specs.Account as deed
 
 -- one more entry
 outstanding_behind : (d : List ℕ) (o : Outstanding) (es : List LogEntry) (e : LogEntry) → outstanding_over d o (es ++ e ∷ []) ≡ outstanding_after d (outstanding_over d o es) e

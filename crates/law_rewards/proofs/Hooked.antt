@@ -1,33 +1,21 @@
 -- Calls of the chain's hooks, taken apart, and the hook before a delegation changes.
-use Rattle.std.proofs.Common.{◌≡◌, ℕ, ◌+◌, ◌≤◌, ◌≢◌, Bool, true, false, cond, List, [], ◌∷◌, ◌++◌, map, filter, refl, arith, sym, ap, subst, ◌∙◌, Option, Some, None, Result, Ok, Err, append-nil}
-use Rattle.std.specs.Prelude.{unwrap_or, is_some, ◌&&◌}
-use Rattle.std.specs.List.{AllByRecursion}
-use Rattle.std.specs.BTreeMap.{is_at}
-use Rattle.std.specs.Map.{lookup}
+use Rattle.std.proofs.Common.{◌≡◌, ℕ, ◌+◌, ◌≤◌, ◌≢◌, Bool, true, false, cond, List, [], ◌∷◌, ◌++◌, map, filter, refl, arith, sym, ap, subst, ◌∙◌, Option, Some, None, Result, Ok, Err, append-nil, unwrap_or, is_some, ◌&&◌}
+use Rattle.std.specs.{List.AllByRecursion, BTreeMap.is_at, Map.lookup}
 use Rattle.base_decimals.specs.declared.over.Over.{Over}
 use Rattle.base_coins.specs.Coins.{Money}
-use Rattle.base_roles.specs.declared.entities.StartingInfo.{StartingInfo}
-use Rattle.base_roles.specs.declared.entities.Validator.{Validator}
-use Rattle.base_roles.specs.Log.{Log}
-use Rattle.base_roles.specs.Orders.{pair_cmp, same_addr}
-use Rattle.base_roles.specs.Pair.{and_then, given_with}
+use Rattle.base_roles.specs.{declared.entities.{StartingInfo.StartingInfo, Validator.Validator}, Log.Log}
+use Rattle.base_roles.specs.{Orders.{pair_cmp, same_addr}, Pair.{and_then, given_with}}
 use Rattle.base_roles.specs.Staked.{Staked, validator_at, delegation}
 use Rattle.base_roles.specs.World.{View, Hook, Told, gives, exceeds, World, hooked, call}
 use Rattle.rule_modules.proofs.OrderLemmas.{pair_found, same_itself}
-use Rattle.rule_modules.specs.Chain.{Hooks, State, chain_told, with_shared}
-use Rattle.rule_modules.specs.Delegating.{hook_before}
+use Rattle.rule_modules.specs.{Chain.{Hooks, State, chain_told, with_shared}, Delegating.hook_before}
 use Rattle.rule_modules.specs.Distribution.{Shared, distribution_told, told_of, left_by, ended, reward_withdrawn}
-use Rattle.rule_modules.specs.Periods.{start_of}
-use Rattle.rule_modules.specs.Window.{Window, window_told}
-use Rattle.law_rewards.specs.Account.{Start, counted_shares}
-use Rattle.law_rewards.specs.States.{starts_in, account_in, AreReached}
-use Rattle.law_rewards.proofs.Entries.{addr_is}
-use Rattle.law_rewards.proofs.Reached.{reached_counted}
-use Rattle.law_rewards.proofs.Claims.{IsReady, IsEnded}
+use Rattle.rule_modules.specs.{Periods.start_of, Window.{Window, window_told}}
+use Rattle.law_rewards.specs.{Account.{Start, counted_shares}, States.{starts_in, account_in, AreReached}}
+use Rattle.law_rewards.proofs.{Entries.addr_is, Reached.reached_counted, Claims.{IsReady, IsEnded}}
 use Rattle.law_rewards.proofs.Endings.{closed_is, end_is, ended_reached}
 use Rattle.law_rewards.proofs.Payments.{IsWithdrawn, withdrawn_is, withdrawn_reached}
-use Rattle.law_rewards.proofs.Beginnings.{MayBegin, may_begin}
-use Rattle.law_rewards.proofs.Quiet.{same_ok}
+use Rattle.law_rewards.proofs.{Beginnings.{MayBegin, may_begin}, Quiet.same_ok}
 
 -- the world after a hook, but for the window
 abbrev pub hook_gave : World Staked Hooks → Shared × View × Log → World Staked Hooks

@@ -1,7 +1,6 @@
 -- What stands between the code's numbers and the ideal's, at each moment of a span.
 use Rattle.std.proofs.Common.{◌≡◌, ℕ, zero, suc, ◌+◌, ◌-◌, ◌*◌, ◌<◌, ◌≤◌, refl, arith, ap, mul-le-mul_right, le_of_mul-le-mul_right, min, le_trans, mul-pos, mul-le-mul, lit<, ◌⊎◌, inl, inr}
-use Rattle.base_shares.specs.Shares.{value_cut_of, value_even_of}
-use Rattle.base_shares.specs.Burns.{recorded_fraction}
+use Rattle.base_shares.specs.{Shares.{value_cut_of, value_even_of}, Burns.recorded_fraction}
 use Rattle.base_shares.proofs.Fractions.{fraction_low, fraction_high, fraction_most}
 use Rattle.rule_modules.specs.Periods.{slashed_stake}
 use Rattle.law_rewards.specs.Account.{product_cut, increment_of}

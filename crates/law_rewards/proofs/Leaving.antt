@@ -1,49 +1,35 @@
 -- Shares that leave: the start of what is left, and then the removal; a validator that is empty goes. The account of each that
 -- stands is reached.
-use Rattle.std.proofs.Common.{◌≡◌, ℕ, ◌+◌, ◌-◌, ◌<◌, ◌≤◌, ◌≢◌, ◌==◌, zero, suc, Bool, true, false, cond, List, [], ◌∷◌, ◌++◌, map, refl, arith, sym, ap, subst, ◌∙◌, Option, Some, None, Result, Ok, Err, append-nil}
-use Rattle.std.specs.Prelude.{unwrap_or, ◌&&◌, if◌then◌else◌, sum}
-use Rattle.std.specs.List.{AllByRecursion, insert}
-use Rattle.std.specs.List.Sorted.{IsStrictlySortedBy}
-use Rattle.std.specs.Map.{keys_of, lookup, remove_entry}
+use Rattle.std.proofs.Common.{◌≡◌, ℕ, ◌+◌, ◌-◌, ◌<◌, ◌≤◌, ◌≢◌, ◌==◌, zero, suc, Bool, true, false, cond, List, [], ◌∷◌, ◌++◌, map, refl, arith, sym, ap, subst, ◌∙◌, Option, Some, None, Result, Ok, Err, append-nil, unwrap_or, ◌&&◌, if◌then◌else◌, sum, insert}
+use Rattle.std.specs.{List.{AllByRecursion, Sorted.IsStrictlySortedBy}, Map.{keys_of, lookup, remove_entry}}
 use Rattle.std.specs.BTreeMap.{is_at}
 use Rattle.base_decimals.specs.declared.over.Over.{Over}
 use Rattle.base_types.specs.Orders.{addr_cmp}
 use Rattle.base_coins.specs.Coins.{Money, amount_of, coins_added, coins_taken, fractions, whole_coins}
 use Rattle.base_shares.specs.Shares.{amount_out}
-use Rattle.base_roles.specs.declared.entities.Validator.{Validator}
-use Rattle.base_roles.specs.declared.facts.Fact.TheVariants as fact
-use Rattle.base_roles.specs.Entries.{at, without}
-use Rattle.base_roles.specs.Items.{no_purse}
-use Rattle.base_roles.specs.Log.{Log, LogEntry}
-use Rattle.base_roles.specs.Log as log
-use Rattle.base_roles.specs.Orders.{pair_cmp, same_addr}
-use Rattle.base_roles.specs.Staked.{Staked, validator_at, delegation, put_validator, is_unbonded}
-use Rattle.base_roles.specs.Flow.{◌>>=◌}
+use Rattle.base_roles.specs.{declared.entities.Validator.Validator, Entries.{at, without}, Items.no_purse}
+use Rattle.base_roles.specs.{Log.{Log, LogEntry}, Orders.{pair_cmp, same_addr}}
+use Rattle.base_roles.specs.{Staked.{Staked, validator_at, delegation, put_validator, is_unbonded}, Flow.{◌>>=◌}}
 use Rattle.base_roles.specs.World.{View, Told, gives, World, call, modifying, modified, noted, over_view, over_mine, logged}
+use Rattle.base_roles.specs.declared.facts.Fact.TheVariants as fact
+use Rattle.base_roles.specs.Log as log
 use Rattle.base_roles.specs.World as hook
-use Rattle.rule_modules.proofs.EntryLemmas.{at-taken}
-use Rattle.rule_modules.proofs.OrderLemmas.{addr_total, pair_found}
-use Rattle.rule_modules.specs.Amounts.{is_empty, over_facts}
-use Rattle.rule_modules.specs.Chain.{Hooks, State, chain_told, staked_in, with_staked}
+use Rattle.rule_modules.proofs.{EntryLemmas.at-taken, OrderLemmas.{addr_total, pair_found}}
+use Rattle.rule_modules.specs.{Amounts.{is_empty, over_facts}, Chain.{Hooks, State, chain_told, staked_in, with_staked}}
 use Rattle.rule_modules.specs.Distribution.{Shared, distribution_told, records_removed, payee_of, paid_to, told_of, unlogged}
-use Rattle.rule_modules.specs.Ideal.{history_of}
-use Rattle.rule_modules.specs.Periods.{initial_records, periods_of, without_periods}
+use Rattle.rule_modules.specs.{Ideal.history_of, Periods.{initial_records, periods_of, without_periods}}
 use Rattle.rule_modules.specs.Purses.{Purses, purse_of, closed, pool_joined, pooled_told, due_at_last}
 use Rattle.rule_modules.specs.Stakes.{put_delegation, without_shares, without_validator}
 use Rattle.rule_modules.specs.Unbonding.{removed_if_empty, validator_removed}
 use Rattle.law_rewards.specs.Account.{Start, Account, IsReached, counted_shares, account_after, start_made}
-use Rattle.law_rewards.specs.Account as deed
-use Rattle.law_rewards.specs.States.{starts_in, account_in, AreReached}
-use Rattle.law_rewards.proofs.Lists.{sum_more}
-use Rattle.law_rewards.proofs.Following.{own_addr}
+use Rattle.law_rewards.{specs.States.{starts_in, account_in, AreReached}, proofs.{Lists.sum_more, Following.own_addr}}
 use Rattle.law_rewards.proofs.Denominations.{step_parts}
 use Rattle.law_rewards.proofs.Entries.{addr_is, pair_is, put_there, put_elsewhere, history_behind, history_elsewhere, IsPutInto}
-use Rattle.law_rewards.proofs.Reached.{deeds_lead_on}
-use Rattle.law_rewards.proofs.Endings.{same_account, same_some}
+use Rattle.law_rewards.proofs.{Reached.deeds_lead_on, Endings.{same_account, same_some}}
 use Rattle.law_rewards.proofs.Beginnings.{MayBegin, state_begun, info_of, own_put, begun_account, begun_reached}
-use Rattle.law_rewards.proofs.Quiet.{same_ok, joined_purses}
-use Rattle.law_rewards.proofs.Hooked.{hook_gave, call_parts, same_told, IsOpen}
+use Rattle.law_rewards.proofs.{Quiet.{same_ok, joined_purses}, Hooked.{hook_gave, call_parts, same_told, IsOpen}}
 use Rattle.law_rewards.proofs.Growing.{OthersStay, own_starts, apart_back, shares_stay, own_shares, over_stake, other_stands}
+use Rattle.law_rewards.specs.Account as deed
 
 -- ---- entries that go
 

@@ -1,8 +1,6 @@
 -- Lists of starts: one more, one less, and their sums.
-use Rattle.std.proofs.Common.{◌≡◌, ℕ, zero, suc, ◌+◌, ◌<◌, ◌≤◌, List, [], ◌∷◌, ◌++◌, length, map, refl, arith, ap, sym, subst}
-use Rattle.std.specs.Prelude.{Some, sum}
-use Rattle.std.specs.List.{AllByRecursion, slice_get, insert, remove}
-use Rattle.std.proofs.lemmas.List.Sums.{sum_by-cons}
+use Rattle.std.proofs.Common.{◌≡◌, ℕ, zero, suc, ◌+◌, ◌<◌, ◌≤◌, List, [], ◌∷◌, ◌++◌, length, map, refl, arith, ap, sym, subst, Some, sum, slice_get, insert, remove}
+use Rattle.std.{specs.List.AllByRecursion, proofs.lemmas.List.Sums.sum_by-cons}
 
 pub all_map : {A : Type 0} (P Q : A → Type 0) → ((x : A) → P x → Q x) → (xs : List A) → AllByRecursion P xs → AllByRecursion Q xs
 all_map P Q f [] e = tt

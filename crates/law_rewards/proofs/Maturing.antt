@@ -1,44 +1,24 @@
 -- Validators whose unbonding is mature keep accounts reached: they are unbonded, and go where they have no shares.
-use Rattle.std.proofs.Common.{◌≡◌, ℕ, ◌==◌, Bool, true, false, cond, List, [], ◌∷◌, refl, sym, ap, subst, ◌∙◌, Some, Result, Ok}
-use Rattle.std.specs.Prelude.{◌&&◌, if◌then◌else◌, nat_le}
-use Rattle.std.specs.List.{AllByRecursion}
-use Rattle.std.specs.List.Sorted.{IsStrictlySortedBy}
-use Rattle.std.specs.Map.{keys_of, values_of, remove_entry}
-use Rattle.std.specs.BTreeMap.{is_at}
-use Rattle.std.specs.declared.cmp.Ordering.TheVariants.{Less}
-use Rattle.std.proofs.lemmas.List.Elements.{recursion_from_All}
+use Rattle.std.proofs.Common.{◌≡◌, ℕ, ◌==◌, Bool, true, false, cond, List, [], ◌∷◌, refl, sym, ap, subst, ◌∙◌, Some, Result, Ok, ◌&&◌, if◌then◌else◌, nat_le, Less}
+use Rattle.std.specs.{List.{AllByRecursion, Sorted.IsStrictlySortedBy}, Map.{keys_of, values_of, remove_entry}}
+use Rattle.std.{specs.BTreeMap.is_at, proofs.lemmas.List.Elements.recursion_from_All}
 use Rattle.base_decimals.specs.declared.over.Over.{Over}
-use Rattle.base_types.specs.declared.status.BondStatus.TheVariants.{Unbonded}
-use Rattle.base_types.specs.Orders.{addr_cmp}
-use Rattle.base_roles.specs.declared.entities.Validator.{Validator}
-use Rattle.base_roles.specs.declared.facts.Fact.TheVariants as fact
-use Rattle.base_roles.specs.Log.{Log}
-use Rattle.base_roles.specs.Orders.{same_addr}
-use Rattle.base_roles.specs.Staked.{Staked, validator_at, put_validator, is_unbonded}
-use Rattle.base_roles.specs.Flow.{each}
+use Rattle.base_types.specs.{declared.status.BondStatus.TheVariants.Unbonded, Orders.addr_cmp}
+use Rattle.base_roles.specs.{declared.entities.Validator.Validator, Log.Log, Orders.same_addr}
+use Rattle.base_roles.specs.{Staked.{Staked, validator_at, put_validator, is_unbonded}, Flow.each}
 use Rattle.base_roles.specs.World.{View, World, Told, gives, call, noted, over_view, over_mine}
+use Rattle.base_roles.specs.declared.facts.Fact.TheVariants as fact
 use Rattle.base_roles.specs.World as hook
-use Rattle.rule_modules.proofs.EntryLemmas.{ascend-put}
-use Rattle.rule_modules.proofs.OperatorLemmas.{values_own}
-use Rattle.rule_modules.proofs.OrderLemmas.{addr_total}
+use Rattle.rule_modules.proofs.{EntryLemmas.ascend-put, OperatorLemmas.values_own, OrderLemmas.addr_total}
 use Rattle.rule_modules.specs.BondedSet.{HaveOwnOperators, matured, validators_matured}
 use Rattle.rule_modules.specs.Chain.{Hooks, State, chain_told, staked_in, with_staked, maturing_step}
-use Rattle.rule_modules.specs.Distribution.{Shared, distribution_told}
-use Rattle.rule_modules.specs.Sound.{IsSound}
+use Rattle.rule_modules.specs.{Distribution.{Shared, distribution_told}, Sound.IsSound}
 use Rattle.rule_modules.specs.Stakes.{changed, is_unbonding, without_validator}
 use Rattle.rule_modules.specs.Unbonding.{removed_if_empty, validator_removed}
-use Rattle.law_rewards.specs.States.{AreReached}
-use Rattle.law_rewards.specs.StateLaws.{ReachedStays}
-use Rattle.law_rewards.specs.Changes.{MaturingKeepsReached}
-use Rattle.law_rewards.proofs.Denominations.{step_parts}
-use Rattle.law_rewards.proofs.Entries.{put_elsewhere}
-use Rattle.law_rewards.proofs.Beginnings.{if_ok}
-use Rattle.law_rewards.proofs.Edits.{state_with, standing_reached}
-use Rattle.law_rewards.proofs.Quiet.{same_ok}
-use Rattle.law_rewards.proofs.Hooked.{hook_gave, call_parts}
-use Rattle.law_rewards.proofs.Growing.{apart_back}
-use Rattle.law_rewards.proofs.Leaving.{addr_taken, emptied_reached}
-use Rattle.law_rewards.proofs.Bonding.{IsKnown, all_known}
+use Rattle.law_rewards.specs.{States.AreReached, StateLaws.ReachedStays, Changes.MaturingKeepsReached}
+use Rattle.law_rewards.proofs.{Denominations.step_parts, Entries.put_elsewhere, Beginnings.if_ok}
+use Rattle.law_rewards.proofs.{Edits.{state_with, standing_reached}, Quiet.same_ok, Hooked.{hook_gave, call_parts}}
+use Rattle.law_rewards.proofs.{Growing.apart_back, Leaving.{addr_taken, emptied_reached}, Bonding.{IsKnown, all_known}}
 
 -- ---- keys stay in order
 

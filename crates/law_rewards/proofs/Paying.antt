@@ -1,39 +1,26 @@
 -- What steps tell and log: each entry is fair by the log up to it, and the payments that are told are those that are logged.
-use Rattle.std.proofs.Common.{◌≡◌, ℕ, ◌==◌, Bool, true, false, cond, List, [], ◌∷◌, ◌++◌, refl, sym, ap, subst, ◌∙◌, Option, Some, None, Result, Ok, append-nil, append_assoc}
-use Rattle.std.specs.Prelude.{if◌then◌else◌}
+use Rattle.std.proofs.Common.{◌≡◌, ℕ, ◌==◌, Bool, true, false, cond, List, [], ◌∷◌, ◌++◌, refl, sym, ap, subst, ◌∙◌, Option, Some, None, Result, Ok, append-nil, append_assoc, if◌then◌else◌}
 use Rattle.base_decimals.specs.declared.over.Over.{Over}
-use Rattle.base_types.specs.declared.account.Account.{Account as Holder}
+use Rattle.base_types.specs.declared.account.{Account.{Account as Holder}, Module.Module}
 use Rattle.base_types.specs.declared.account.Account.TheVariants as account
-use Rattle.base_types.specs.declared.account.Module.{Module}
 use Rattle.base_types.specs.declared.account.Module.TheVariants as holder
 use Rattle.base_coins.specs.Coins.{Money, whole_coins, fractions}
 use Rattle.base_shares.specs.Shares.{value_cut_of}
-use Rattle.base_roles.specs.declared.entities.Validator.{Validator}
-use Rattle.base_roles.specs.declared.facts.Fact.{Fact}
+use Rattle.base_roles.specs.declared.{entities.Validator.Validator, facts.Fact.Fact}
+use Rattle.base_roles.specs.{Holdings.{transfer_told, burn_told}, Log.{Log, LogEntry}}
+use Rattle.base_roles.specs.{Staked.{validator_at, delegation}, Flow.{◌>>=◌}, World.{View, gives, noted}}
 use Rattle.base_roles.specs.declared.facts.Fact.TheVariants as fact
-use Rattle.base_roles.specs.Holdings.{transfer_told, burn_told}
-use Rattle.base_roles.specs.Log.{Log, LogEntry}
 use Rattle.base_roles.specs.Log as log
-use Rattle.base_roles.specs.Staked.{validator_at, delegation}
-use Rattle.base_roles.specs.Flow.{◌>>=◌}
-use Rattle.base_roles.specs.World.{View, gives, noted}
-use Rattle.rule_modules.specs.Amounts.{is_empty, over_facts}
-use Rattle.rule_modules.specs.Chain.{State}
-use Rattle.rule_modules.specs.Delegating.{hook_before}
+use Rattle.rule_modules.specs.{Amounts.{is_empty, over_facts}, Chain.State, Delegating.hook_before}
 use Rattle.rule_modules.specs.Distribution.{Shared, distribution_told, ended, started, current_taken, reward_withdrawn, payee_of}
 use Rattle.rule_modules.specs.Ideal.{span_of, history_of}
 use Rattle.rule_modules.specs.Periods.{Periods, periods_of, with_periods, period_ended, last_ended}
 use Rattle.rule_modules.specs.Purses.{Purses, purse_of, pooled_told}
 use Rattle.law_rewards.specs.States.{AreReached}
 use Rattle.law_rewards.specs.Withdrawals.{IsFairEntry, AreInTurn, AreFair, IsFairReward, reward_paid, coins_paid, paid_by, payments_of, is_payment, payments_in, IsSent, AreSent}
-use Rattle.law_rewards.specs.WithdrawalLaws.{IsFairWithdrawal}
-use Rattle.law_rewards.proofs.Following.{now_is, own_addr}
-use Rattle.law_rewards.proofs.Denominations.{step_parts}
-use Rattle.law_rewards.proofs.Claims.{IsReady}
-use Rattle.law_rewards.proofs.Quiet.{same_ok}
-use Rattle.law_rewards.proofs.Hooked.{answer_of}
-use Rattle.law_rewards.proofs.Entries.{history_behind}
-use Rattle.law_rewards.proofs.Withdrawing.{IsMade, made_is, fair_withdrawal, fair_reward}
+use Rattle.law_rewards.{specs.WithdrawalLaws.IsFairWithdrawal, proofs.Following.{now_is, own_addr}}
+use Rattle.law_rewards.proofs.{Denominations.step_parts, Claims.IsReady, Quiet.same_ok, Hooked.answer_of}
+use Rattle.law_rewards.proofs.{Entries.history_behind, Withdrawing.{IsMade, made_is, fair_withdrawal, fair_reward}}
 
 -- ---- facts and entries one behind the other
 

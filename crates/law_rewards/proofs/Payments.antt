@@ -1,42 +1,28 @@
 -- Withdrawing a delegation's reward, as a step of a state, is the deeds of its rule; every other account stays.
-use Rattle.std.proofs.Common.{◌≡◌, ℕ, ◌-◌, ◌≢◌, Bool, true, false, List, [], ◌∷◌, ◌++◌, map, refl, arith, sym, ap, subst, ◌∙◌, Some, Result, Ok, min, append_assoc}
-use Rattle.std.specs.Prelude.{unwrap_or, is_some}
-use Rattle.std.specs.List.{slice_get, remove}
+use Rattle.std.proofs.Common.{◌≡◌, ℕ, ◌-◌, ◌≢◌, Bool, true, false, List, [], ◌∷◌, ◌++◌, map, refl, arith, sym, ap, subst, ◌∙◌, Some, Result, Ok, min, append_assoc, unwrap_or, is_some, slice_get, remove}
 use Rattle.std.specs.BTreeMap.{is_at}
 use Rattle.base_decimals.specs.declared.over.Over.{Over}
 use Rattle.base_types.specs.Orders.{addr_cmp}
 use Rattle.base_coins.specs.Coins.{Money, IsMoney, amount_of, coins_added, coins_taken, smaller_of, whole_coins, fractions}
-use Rattle.base_coins.proofs.Order.{rises_from_money}
-use Rattle.base_coins.proofs.Amounts.{amount-all}
+use Rattle.base_coins.proofs.{Order.rises_from_money, Amounts.amount-all}
 use Rattle.base_shares.specs.Shares.{value_even_of}
-use Rattle.base_roles.specs.declared.entities.Purse.{Purse}
-use Rattle.base_roles.specs.declared.entities.StartingInfo.{StartingInfo}
-use Rattle.base_roles.specs.declared.entities.Validator.{Validator}
+use Rattle.base_roles.specs.declared.entities.{Purse.Purse, StartingInfo.StartingInfo, Validator.Validator}
+use Rattle.base_roles.specs.{Entries.{at, with}, Items.no_purse, Log.{Log, LogEntry}, Orders.{pair_cmp, same_addr}}
+use Rattle.base_roles.specs.{Staked.{validator_at, delegation}, Flow.{◌>>=◌}, World.{View, noted}}
 use Rattle.base_roles.specs.declared.facts.Fact.TheVariants as fact
-use Rattle.base_roles.specs.Entries.{at, with}
-use Rattle.base_roles.specs.Items.{no_purse}
-use Rattle.base_roles.specs.Log.{Log, LogEntry}
 use Rattle.base_roles.specs.Log as log
-use Rattle.base_roles.specs.Orders.{pair_cmp, same_addr}
-use Rattle.base_roles.specs.Staked.{validator_at, delegation}
-use Rattle.base_roles.specs.Flow.{◌>>=◌}
-use Rattle.base_roles.specs.World.{View, noted}
-use Rattle.rule_modules.specs.Amounts.{over_facts}
-use Rattle.rule_modules.specs.Chain.{State, with_shared}
+use Rattle.rule_modules.specs.{Amounts.over_facts, Chain.{State, with_shared}}
 use Rattle.rule_modules.specs.Distribution.{Shared, ended, reward_due, reward_withdrawn, payee_of, paid_to}
-use Rattle.rule_modules.specs.Ideal.{history_of}
-use Rattle.rule_modules.specs.Periods.{Rewards, periods_of, start_of, without_start, reward_at}
+use Rattle.rule_modules.specs.{Ideal.history_of, Periods.{Rewards, periods_of, start_of, without_start, reward_at}}
 use Rattle.rule_modules.specs.Purses.{Purses, purse_of, with_purse, pool_joined, paid_out, pooled_told}
 use Rattle.law_rewards.specs.Account.{Start, Account, IsReached, reward_now, owner_of, full_of, payment_of, account_after}
-use Rattle.law_rewards.specs.Account as deed
-use Rattle.law_rewards.specs.States.{starts_in, account_in, AreReached}
-use Rattle.law_rewards.specs.StateLaws.{WithdrawalKeepsReached}
-use Rattle.law_rewards.proofs.Following.{own_addr, other_addr}
-use Rattle.law_rewards.proofs.Denominations.{step_parts}
+use Rattle.law_rewards.specs.{States.{starts_in, account_in, AreReached}, StateLaws.WithdrawalKeepsReached}
+use Rattle.law_rewards.proofs.{Following.{own_addr, other_addr}, Denominations.step_parts}
 use Rattle.law_rewards.proofs.Entries.{addr_is, pair_is, put_there, put_elsewhere, history_behind, history_elsewhere, IsGoneFrom, gone_from, kept_by}
 use Rattle.law_rewards.proofs.Reached.{deeds_lead_on}
 use Rattle.law_rewards.proofs.Claims.{IsReady, ready_in, IsEnded, closed_account, closed_full, due_parts, some_of, start_with}
 use Rattle.law_rewards.proofs.Endings.{same_account, state_then, closed_is, same_some, end_is, ended_reached}
+use Rattle.law_rewards.specs.Account as deed
 
 -- ---- the purse of a validator of which a reward was paid
 

@@ -1,35 +1,22 @@
 -- A slash since a height, of what was unbonded and redelegated and of the validator itself, and jailing: a vote and a piece of
 -- evidence keep accounts reached.
-use Rattle.std.proofs.Common.{◌≡◌, ℕ, Bool, true, false, cond, List, [], ◌∷◌, refl, ap, subst, ◌∙◌, Some, Ok}
-use Rattle.std.specs.Prelude.{find}
-use Rattle.std.specs.List.{AllByRecursion}
-use Rattle.std.specs.Map.{values_of}
-use Rattle.std.specs.Ordering.{is_eq}
-use Rattle.std.proofs.lemmas.List.Elements.{recursion_from_All}
+use Rattle.std.proofs.Common.{◌≡◌, ℕ, Bool, true, false, cond, List, [], ◌∷◌, refl, ap, subst, ◌∙◌, Some, Ok, find, is_eq}
+use Rattle.std.{specs.{List.AllByRecursion, Map.values_of}, proofs.lemmas.List.Elements.recursion_from_All}
 use Rattle.base_types.specs.Orders.{addr_cmp, cons_cmp}
-use Rattle.base_roles.specs.declared.entities.Validator.{Validator}
-use Rattle.base_roles.specs.declared.params.Ctx.{Ctx}
+use Rattle.base_roles.specs.declared.{entities.Validator.Validator, params.Ctx.Ctx}
 use Rattle.base_roles.specs.Staked.{Staked, validator_at, validator_by_cons, delegation}
 use Rattle.base_roles.specs.World.{View, World, over_view}
-use Rattle.rule_modules.proofs.EntryLemmas.{to_all}
-use Rattle.rule_modules.proofs.OrderLemmas.{addr_total}
+use Rattle.rule_modules.proofs.{EntryLemmas.to_all, OrderLemmas.addr_total, GoingLemmas.weaker_if}
+use Rattle.rule_modules.proofs.SlashParts.{GoesThroughPunishing, beside_entries, entries_lost, evidence_goes, following_lost, after_jailing, target_lost, vote_goes, burnt_with, slash_noted, OwnTarget, own_target, entries_go}
+use Rattle.rule_modules.proofs.BesideLemmas.{raised}
 use Rattle.rule_modules.specs.Chain.{Stakes, State, chain_told, beside_window, with_window, vote_step, evidence_step, staked_in, with_staked, Hooks}
-use Rattle.rule_modules.specs.Distribution.{Shared}
-use Rattle.rule_modules.specs.EntrySlashes.{entries_slashed}
-use Rattle.rule_modules.specs.Sound.{IsSound}
-use Rattle.rule_modules.specs.Unbonding.{unbonded_shares}
-use Rattle.rule_modules.specs.Unbondings.{UnbondingLists}
-use Rattle.rule_modules.specs.Window.{Window}
-use Rattle.law_rewards.specs.States.{AreReached}
-use Rattle.law_rewards.specs.StateLaws.{ReachedStays}
-use Rattle.law_rewards.specs.Changes.{VotesKeepReached, EvidenceKeepsReached}
-use Rattle.law_rewards.proofs.Edits.{standing_reached}
+use Rattle.rule_modules.specs.{Distribution.Shared, EntrySlashes.entries_slashed, Sound.IsSound}
+use Rattle.rule_modules.specs.{Unbonding.unbonded_shares, Unbondings.UnbondingLists, Window.Window}
+use Rattle.law_rewards.specs.{States.AreReached, StateLaws.ReachedStays}
+use Rattle.law_rewards.{specs.Changes.{VotesKeepReached, EvidenceKeepsReached}, proofs.Edits.standing_reached}
 use Rattle.law_rewards.proofs.Quiet.{viewed_reached}
 use Rattle.law_rewards.proofs.Fits.{Fits, nobody, fits_sound, put_fits, unbonded_fits, unbonded_then}
 use Rattle.law_rewards.proofs.Slashing.{Going, empty_going, burnt_going}
-use Rattle.rule_modules.proofs.GoingLemmas.{weaker_if}
-use Rattle.rule_modules.proofs.SlashParts.{GoesThroughPunishing, beside_entries, entries_lost, evidence_goes, following_lost, after_jailing, target_lost, vote_goes, burnt_with, slash_noted, OwnTarget, own_target, entries_go}
-use Rattle.rule_modules.proofs.BesideLemmas.{raised}
 
 -- ---- a slash
 

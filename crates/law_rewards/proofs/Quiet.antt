@@ -1,54 +1,33 @@
 -- Messages that touch no rewards keep accounts reached; the payment of commission is its deed.
-use Rattle.std.proofs.Common.{◌≡◌, ℕ, ◌-◌, ◌*◌, ◌/◌, ◌^◌, ◌≤◌, Bool, true, false, List, [], ◌∷◌, ◌++◌, refl, arith, sym, ap, subst, ◌∙◌, Some, Result, Ok, min, append-nil}
-use Rattle.std.specs.Prelude.{unwrap_or, IfSome, not, ⊤}
-use Rattle.std.specs.BTreeMap.{is_at}
-use Rattle.std.proofs.lemmas.Map.Entries.{All-lookup}
-use Rattle.base_types.specs.declared.account.Account.{Account as Holder}
+use Rattle.std.proofs.Common.{◌≡◌, ℕ, ◌-◌, ◌*◌, ◌/◌, ◌^◌, ◌≤◌, Bool, true, false, List, [], ◌∷◌, ◌++◌, refl, arith, sym, ap, subst, ◌∙◌, Some, Result, Ok, min, append-nil, unwrap_or, IfSome, not}
+use Rattle.std.{specs.{Prelude.⊤, BTreeMap.is_at}, proofs.lemmas.Map.Entries.All-lookup}
+use Rattle.base_types.specs.{declared.{account.{Account.{Account as Holder}}}, Orders.addr_cmp}
 use Rattle.base_types.specs.declared.account.Account.TheVariants as account
 use Rattle.base_types.specs.declared.account.Module.TheVariants as holder
-use Rattle.base_types.specs.Orders.{addr_cmp}
-use Rattle.base_decimals.specs.declared.over.Over.{Over}
-use Rattle.base_decimals.specs.Decimals.{trunc_of}
-use Rattle.base_coins.specs.Coins.{Money, amount_of, coins_added, whole_coins}
-use Rattle.base_coins.proofs.Order.{rises_from_money}
-use Rattle.base_coins.proofs.Amounts.{amount-all}
-use Rattle.base_coins.proofs.Parts.{whole_is_money}
-use Rattle.base_roles.specs.declared.entities.Purse.{Purse}
-use Rattle.base_roles.specs.declared.entities.Validator.{Validator}
-use Rattle.base_roles.specs.declared.facts.Fact.TheVariants as fact
-use Rattle.base_roles.specs.declared.refusal.Refusal.{Refusal}
+use Rattle.base_decimals.specs.{declared.over.Over.Over, Decimals.trunc_of}
+use Rattle.base_coins.{specs.Coins.{Money, amount_of, coins_added, whole_coins}, proofs.Order.rises_from_money}
+use Rattle.base_coins.proofs.{Amounts.amount-all, Parts.whole_is_money}
+use Rattle.base_roles.specs.declared.{entities.{Purse.Purse, Validator.Validator}, refusal.Refusal.Refusal}
 use Rattle.base_roles.specs.declared.refusal.Refusal.TheVariants.{FeeUnpaid, NoCommission, NonPositive, InsufficientFunds, Overflow, ModuleRecipient, NotAuthority, PoolTooSmall, WithdrawFixed}
-use Rattle.base_roles.specs.Entries.{at, with}
-use Rattle.base_roles.specs.Holdings.{is_short}
-use Rattle.base_roles.specs.Items.{no_purse}
-use Rattle.base_roles.specs.Log.{Log}
+use Rattle.base_roles.specs.{Entries.{at, with}, Holdings.is_short, Items.no_purse, Log.Log, Orders.same_addr}
+use Rattle.base_roles.specs.{Flow.{◌>>=◌, ◌>>◌, stop_if, or_stop, stopping}, World.{View, sent, over_view, noted}}
+use Rattle.base_roles.specs.declared.facts.Fact.TheVariants as fact
 use Rattle.base_roles.specs.Log as log
-use Rattle.base_roles.specs.Orders.{same_addr}
-use Rattle.base_roles.specs.Flow.{◌>>=◌, ◌>>◌, stop_if, or_stop, stopping}
-use Rattle.base_roles.specs.World.{View, sent, over_view, noted}
 pub use Rattle.rule_modules.proofs.GoingLemmas.{same_ok}
-use Rattle.rule_modules.proofs.PartLemmas.{amount_in_units}
-use Rattle.rule_modules.specs.Amounts.{in_units, is_empty, over_facts}
-use Rattle.rule_modules.specs.Chain.{State, with_shared}
+use Rattle.rule_modules.proofs.{PartLemmas.amount_in_units, ParameterLemmas.on_update}
+use Rattle.rule_modules.specs.{Amounts.{in_units, is_empty, over_facts}, Chain.{State, with_shared}}
 use Rattle.rule_modules.specs.Distribution.{Shared, payee_of, paid_to}
 use Rattle.rule_modules.specs.Effects.{coins_sent, send, withdraw_commission, set_withdraw_address, fund_community_pool, community_pool_spend, fee_paid}
-use Rattle.rule_modules.specs.Ideal.{history_of}
-use Rattle.rule_modules.specs.Periods.{periods_of}
+use Rattle.rule_modules.specs.{Ideal.history_of, Periods.periods_of}
 use Rattle.rule_modules.specs.Purses.{Purses, purse_of, with_purse, pool_joined, pooled_told, pool_lowered, is_above_pool, commission_due, commission_paid}
 use Rattle.rule_modules.specs.Sound.{IsSound, PurseIsSound}
 use Rattle.rule_modules.specs.Withdrawals.{is_module, commission_withdrawn, payee_set, pool_funded, pool_spent}
-use Rattle.rule_modules.proofs.ParameterLemmas.{on_update}
-use Rattle.law_rewards.specs.Account.{Account, IsReached, account_after}
-use Rattle.law_rewards.specs.Account as deed
-use Rattle.law_rewards.specs.States.{starts_in, account_in}
-use Rattle.law_rewards.specs.StateLaws.{ReachedStays, QuietMessagesKeepReached}
-use Rattle.law_rewards.proofs.Rounding.{floor_low}
-use Rattle.law_rewards.proofs.Following.{own_addr, other_addr}
-use Rattle.law_rewards.proofs.Denominations.{step_parts}
+use Rattle.law_rewards.specs.{Account.{Account, IsReached, account_after}, States.{starts_in, account_in}}
+use Rattle.law_rewards.{specs.StateLaws.{ReachedStays, QuietMessagesKeepReached}, proofs.Rounding.floor_low}
+use Rattle.law_rewards.proofs.{Following.{own_addr, other_addr}, Denominations.step_parts}
 use Rattle.law_rewards.proofs.Entries.{addr_is, put_there, put_elsewhere, history_behind, history_elsewhere}
-use Rattle.law_rewards.proofs.Reached.{deeds_lead_on}
-use Rattle.law_rewards.proofs.Endings.{same_account}
-use Rattle.law_rewards.proofs.Beginnings.{found_is, went_on, if_ok}
+use Rattle.law_rewards.proofs.{Reached.deeds_lead_on, Endings.same_account, Beginnings.{found_is, went_on, if_ok}}
+use Rattle.law_rewards.specs.Account as deed
 
 -- ---- steps that went on
 

@@ -1,15 +1,11 @@
 -- What holds of each account that is reached, and that fitting deeds lead from one to another.
-use Rattle.std.proofs.Common.{◌≡◌, ℕ, ◌<◌, ◌≤◌, true, List, [], ◌∷◌, ◌++◌, refl, arith, ap, ◌∙◌, subst, sym, None}
-use Rattle.std.specs.Prelude.{is_some}
-use Rattle.std.specs.List.{AllByRecursion}
-use Rattle.std.proofs.lemmas.List.Elements.{All-from_recursion}
+use Rattle.std.proofs.Common.{◌≡◌, ℕ, ◌<◌, ◌≤◌, true, List, [], ◌∷◌, ◌++◌, refl, arith, ap, ◌∙◌, subst, sym, None, is_some}
+use Rattle.std.{specs.List.AllByRecursion, proofs.lemmas.List.Elements.All-from_recursion}
 use Rattle.rule_modules.specs.Ideal.{span_of}
 use Rattle.law_rewards.specs.Account.{Account, Deed, AreFitting, IsReached, account_of, account_after, new_account, counted_shares}
 use Rattle.law_rewards.specs.Laws.{IsStartBracketed, IsCutWithin, NewIsReached, DeedsLeadOn, RewardsAreBracketed, ShortfallIsBounded, CutIsBounded}
-use Rattle.law_rewards.proofs.Lists.{all_map}
-use Rattle.law_rewards.proofs.Following.{Follows, bracketed}
-use Rattle.law_rewards.proofs.Deeds.{AreApart, Good, good_after, good_new}
-use Rattle.law_rewards.proofs.Holders.{Covers}
+use Rattle.law_rewards.proofs.{Lists.all_map, Following.{Follows, bracketed}}
+use Rattle.law_rewards.proofs.{Deeds.{AreApart, Good, good_after, good_new}, Holders.Covers}
 use Rattle.law_rewards.proofs.Covered.{book_in, held_is, covers_after, covers_new, covers_claims, cuts_within}
 
 record Sound (d : List ℕ) (a : Account) : Type 0 where

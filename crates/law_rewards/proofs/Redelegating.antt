@@ -1,31 +1,20 @@
 -- Redelegating keeps accounts reached: shares leave the source, whose target still has its records, and come to that.
-use Rattle.std.proofs.Common.{◌≡◌, ℕ, ◌≤◌, ◌==◌, Bool, false, List, length, sym, ap, subst, ◌∙◌, Some, Result, Ok, Err}
-use Rattle.std.specs.Prelude.{nat_le, is_none, ⊤}
+use Rattle.std.proofs.Common.{◌≡◌, ℕ, ◌≤◌, ◌==◌, Bool, false, List, length, sym, ap, subst, ◌∙◌, Some, Result, Ok, Err, nat_le, is_none}
+use Rattle.std.specs.Prelude.{⊤}
 use Rattle.base_coins.specs.declared.coin.Coin.{Coin}
 use Rattle.base_shares.specs.Shares.{amount_out}
-use Rattle.base_roles.specs.declared.entities.Validator.{Validator}
-use Rattle.base_roles.specs.declared.refusal.Refusal.{Refusal}
+use Rattle.base_roles.specs.declared.{entities.Validator.Validator, refusal.Refusal.Refusal}
 use Rattle.base_roles.specs.declared.refusal.Refusal.TheVariants.{WrongDenom, NonPositive, NoValidator, SelfRedelegation, Transitive, RedelegationsFull, TinyRedelegation, Overflow}
-use Rattle.base_roles.specs.Orders.{same_addr}
-use Rattle.base_roles.specs.Staked.{Staked, validator_at, delegation}
-use Rattle.base_roles.specs.Flow.{◌>>=◌, ◌>>◌, stop_if, or_stop, stopping}
-use Rattle.base_roles.specs.World.{World}
+use Rattle.base_roles.specs.{Orders.same_addr, Staked.{Staked, validator_at, delegation}}
+use Rattle.base_roles.specs.{Flow.{◌>>=◌, ◌>>◌, stop_if, or_stop, stopping}, World.World}
 use Rattle.rule_modules.specs.Chain.{Hooks, State, chain_told, staked_in, with_staked}
-use Rattle.rule_modules.specs.Delegating.{is_wrong, pool, shares_given, delegated}
-use Rattle.rule_modules.specs.Effects.{begin_redelegate}
+use Rattle.rule_modules.specs.{Delegating.{is_wrong, pool, shares_given, delegated}, Effects.begin_redelegate}
 use Rattle.rule_modules.specs.Redelegations.{RedelegationLists, redelegations_of, is_transitive, begin_info, appended, redelegated}
-use Rattle.rule_modules.specs.Sound.{IsSound}
-use Rattle.rule_modules.specs.Unbonding.{shares_to_unbond, unbonded_shares}
-use Rattle.law_rewards.specs.States.{AreReached}
-use Rattle.law_rewards.specs.StateLaws.{ReachedStays}
-use Rattle.law_rewards.specs.Changes.{RedelegatingKeepsReached}
-use Rattle.law_rewards.proofs.Denominations.{step_parts}
-use Rattle.law_rewards.proofs.Beginnings.{found_is, went_on, if_ok, under_own}
-use Rattle.law_rewards.proofs.Edits.{found_own}
-use Rattle.law_rewards.proofs.Quiet.{same_ok, passed}
-use Rattle.law_rewards.proofs.Hooked.{opened}
-use Rattle.law_rewards.proofs.Growing.{not_stopped, apart_back, delegated_reached}
-use Rattle.law_rewards.proofs.Undelegating.{within_held}
+use Rattle.rule_modules.specs.{Sound.IsSound, Unbonding.{shares_to_unbond, unbonded_shares}}
+use Rattle.law_rewards.specs.{States.AreReached, StateLaws.ReachedStays, Changes.RedelegatingKeepsReached}
+use Rattle.law_rewards.proofs.{Denominations.step_parts, Beginnings.{found_is, went_on, if_ok, under_own}}
+use Rattle.law_rewards.proofs.{Edits.found_own, Quiet.{same_ok, passed}, Hooked.opened}
+use Rattle.law_rewards.proofs.{Growing.{not_stopped, apart_back, delegated_reached}, Undelegating.within_held}
 use Rattle.law_rewards.proofs.Fits.{AllFits, LeavesFit, fits_sound, ready_fits, unbonded_fits, unbonded_then}
 
 abbrev Redelegated : Type 0

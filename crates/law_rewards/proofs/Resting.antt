@@ -1,28 +1,18 @@
 -- By the log, the rewards of a delegator run exactly where a start of it stands.
-use Rattle.std.proofs.Common.{◌≡◌, ◌≢◌, ℕ, ◌*◌, ◌<◌, Bool, true, false, cond, List, [], ◌∷◌, length, refl, sym, ap, subst, ◌∙◌, Option, Some, None}
-use Rattle.std.specs.Prelude.{is_some}
-use Rattle.std.specs.List.{AllByRecursion, slice_get}
+use Rattle.std.proofs.Common.{◌≡◌, ◌≢◌, ℕ, ◌*◌, ◌<◌, Bool, true, false, cond, List, [], ◌∷◌, length, refl, sym, ap, subst, ◌∙◌, Option, Some, None, is_some, slice_get}
+use Rattle.std.specs.List.{AllByRecursion}
 use Rattle.base_coins.specs.Coins.{Money}
-use Rattle.base_shares.specs.Burns.{ratio_of}
-use Rattle.base_shares.specs.Shares.{value_cut_of}
-use Rattle.base_roles.specs.declared.entities.StartingInfo.{StartingInfo}
-use Rattle.base_roles.specs.declared.entities.Validator.{Validator}
-use Rattle.base_roles.specs.Log as log
-use Rattle.base_roles.specs.Orders.{same_addr}
+use Rattle.base_shares.specs.{Burns.ratio_of, Shares.value_cut_of}
+use Rattle.base_roles.specs.{declared.entities.{StartingInfo.StartingInfo, Validator.Validator}, Orders.same_addr}
 use Rattle.base_roles.specs.Staked.{validator_at, delegation}
-use Rattle.rule_modules.specs.Chain.{State}
-use Rattle.rule_modules.specs.Ideal.{span_of, history_of}
-use Rattle.rule_modules.specs.Periods.{start_of}
-use Rattle.rule_modules.specs.Slashing.{slash_fraction}
+use Rattle.base_roles.specs.Log as log
+use Rattle.rule_modules.specs.{Chain.State, Ideal.{span_of, history_of}, Periods.start_of, Slashing.slash_fraction}
 use Rattle.law_rewards.specs.Account.{Start, Account, Deed, IsReached, IsFitting, AreFitting, account_after, account_of, new_account, period_closed, start_made, owner_of}
-use Rattle.law_rewards.specs.Account as deed
-use Rattle.law_rewards.specs.States.{starts_in, account_in, AreReached}
-use Rattle.law_rewards.specs.WithdrawalLaws.{RewardsRunWhereHeld}
-use Rattle.law_rewards.proofs.Lists.{all_put_back, all_before, some_at}
-use Rattle.law_rewards.proofs.Following.{now_is, own_addr, other_addr}
-use Rattle.law_rewards.proofs.Reached.{reached_spans}
-use Rattle.law_rewards.proofs.Claims.{IsReady, ready_in, own_start, some_of}
+use Rattle.law_rewards.specs.{States.{starts_in, account_in, AreReached}, WithdrawalLaws.RewardsRunWhereHeld}
+use Rattle.law_rewards.proofs.{Lists.{all_put_back, all_before, some_at}, Following.{now_is, own_addr, other_addr}}
+use Rattle.law_rewards.proofs.{Reached.reached_spans, Claims.{IsReady, ready_in, own_start, some_of}}
 use Rattle.law_rewards.proofs.Hooked.{none_of, nobody_started}
+use Rattle.law_rewards.specs.Account as deed
 
 -- ---- one account
 

@@ -1,17 +1,13 @@
 -- The last ratio of a reached account is all increments of its history together.
-use Rattle.std.proofs.Common.{◌≡◌, ℕ, ◌+◌, ◌<◌, List, [], ◌∷◌, ◌++◌, map, refl, arith, subst}
-use Rattle.std.specs.List.{slice_get}
+use Rattle.std.proofs.Common.{◌≡◌, ℕ, ◌+◌, ◌<◌, List, [], ◌∷◌, ◌++◌, map, refl, arith, subst, slice_get}
 use Rattle.base_coins.specs.Coins.{Money}
 use Rattle.base_roles.specs.Log.{LogEntry}
 use Rattle.base_roles.specs.Log as log
 use Rattle.base_shares.specs.Shares.{value_cut_of}
-use Rattle.rule_modules.specs.Periods.{last_ended}
-use Rattle.rule_modules.specs.Slashing.{slash_fraction}
+use Rattle.rule_modules.specs.{Periods.last_ended, Slashing.slash_fraction}
 use Rattle.law_rewards.specs.Account.{Account, Deed, IsReached, IsFitting, AreFitting, IsNextRatio, account_after, account_of, new_account, period_closed, ratio_in, start_made, owner_of}
+use Rattle.law_rewards.{specs.Withdrawals.{risen, raised_in}, proofs.{Lists.sum_more, Following.last_ratio}}
 use Rattle.law_rewards.specs.Account as deed
-use Rattle.law_rewards.specs.Withdrawals.{risen, raised_in}
-use Rattle.law_rewards.proofs.Lists.{sum_more}
-use Rattle.law_rewards.proofs.Following.{last_ratio}
 
 -- one more entry
 raised_behind : (d : List ℕ) (es : List LogEntry) (e : LogEntry) → raised_in d (es ++ e ∷ []) ≡ raised_in d es + risen d e

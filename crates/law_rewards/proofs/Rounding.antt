@@ -1,7 +1,6 @@
 -- How far values of shares, increments of the ratio and cut products are from their exact fractions.
 use Rattle.std.proofs.Common.{ℕ, suc, ◌+◌, ◌*◌, ◌^◌, ◌<◌, ◌≤◌, arith, div-add-mod', mod-lt, mul-le-mul_right, le_of_mul-le-mul_right, lt_of_mul-lt-mul_right}
-use Rattle.base_decimals.specs.Rounding.{cut, even}
-use Rattle.base_decimals.specs.Decimals.{digits_36}
+use Rattle.base_decimals.specs.{Rounding.{cut, even}, Decimals.digits_36}
 use Rattle.base_shares.specs.Shares.{value_cut_of, value_even_of}
 use Rattle.law_rewards.specs.Account.{increment_of}
 

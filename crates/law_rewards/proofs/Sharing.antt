@@ -1,57 +1,31 @@
 -- Sharing fees among votes is an allocation for each of their validators.
-use Rattle.std.proofs.Common.{◌≡◌, ℕ, zero, suc, ◌+◌, ◌-◌, ◌*◌, ◌^◌, ◌<◌, ◌≤◌, ◌≢◌, Bool, true, false, cond, List, [], ◌∷◌, ◌++◌, map, filter, refl, arith, sym, ap, subst, ◌∙◌, Option, Some, None, Result, Ok, append-nil, append_assoc, mul-le-mul_left}
-use Rattle.std.specs.Prelude.{unwrap_or, find}
-use Rattle.std.specs.List.{AllByRecursion, slice_get}
-use Rattle.std.specs.List.Sorted.{IsStrictlySortedBy}
-use Rattle.std.specs.Map.{lookup, keys_of, values_of}
-use Rattle.std.specs.BTreeMap.{is_at}
-use Rattle.std.specs.Ordering.{is_eq}
-use Rattle.std.specs.declared.cmp.Ordering.TheVariants.{Less}
-use Rattle.std.proofs.lemmas.Grind.{common_steps}
-use Rattle.std.proofs.lemmas.List.Elements.{recursion_from_All}
-use Rattle.std.proofs.lemmas.Map.Keys.{sorted_head, sorted_tail}
-use Rattle.std.proofs.lemmas.Map.Entries.{All-lookup}
+use Rattle.std.proofs.Common.{◌≡◌, ℕ, zero, suc, ◌+◌, ◌-◌, ◌*◌, ◌^◌, ◌<◌, ◌≤◌, ◌≢◌, Bool, true, false, cond, List, [], ◌∷◌, ◌++◌, map, filter, refl, arith, sym, ap, subst, ◌∙◌, Option, Some, None, Result, Ok, append-nil, append_assoc, mul-le-mul_left, unwrap_or, find, slice_get, is_eq, Less}
+use Rattle.std.specs.{List.{AllByRecursion, Sorted.IsStrictlySortedBy}, Map.{lookup, keys_of, values_of}}
+use Rattle.std.{specs.BTreeMap.is_at, proofs.lemmas.{Grind.common_steps, List.Elements.recursion_from_All}}
+use Rattle.std.proofs.lemmas.Map.{Keys.{sorted_head, sorted_tail}, Entries.All-lookup}
 use Rattle.base_types.specs.Orders.{addr_cmp, cons_cmp}
-use Rattle.base_decimals.specs.declared.over.Over.{Over}
-use Rattle.base_decimals.specs.Rounding.{even}
-use Rattle.base_decimals.specs.Decimals.{mul_even_of, mul_cut_of, quo_cut_of}
+use Rattle.base_decimals.specs.{declared.over.Over.Over, Rounding.even, Decimals.{mul_even_of, mul_cut_of, quo_cut_of}}
 use Rattle.base_shares.proofs.Roundings.{even_most}
 use Rattle.base_coins.specs.Coins.{Money, IsMoney, amount_of, coins_added, coins_taken, coins_mul_cut, coins_mul_even}
-use Rattle.base_coins.proofs.Order.{rises_from_money, money-nil}
-use Rattle.base_coins.proofs.Amounts.{amount-all, amount-by, amount-added}
-use Rattle.base_coins.proofs.Results.{sum_is_money, taken_is_money}
-use Rattle.base_coins.proofs.Parts.{by_is_money, below_is, zero_mul_even}
-use Rattle.base_roles.specs.declared.entities.Purse.{Purse}
-use Rattle.base_roles.specs.declared.entities.StartingInfo.{StartingInfo}
-use Rattle.base_roles.specs.declared.entities.Validator.{Validator}
-use Rattle.base_roles.specs.declared.facts.Fact.{Fact}
-use Rattle.base_roles.specs.declared.facts.Fact.TheVariants as fact
-use Rattle.base_roles.specs.declared.messages.Vote.{Vote}
-use Rattle.base_roles.specs.Entries.{at, with}
-use Rattle.base_roles.specs.Items.{no_purse}
-use Rattle.base_roles.specs.Log.{Log, LogEntry}
-use Rattle.base_roles.specs.Log as log
-use Rattle.base_roles.specs.Orders.{same_addr}
-use Rattle.base_roles.specs.Staked.{Staked, validator_at, validator_by_cons}
+use Rattle.base_coins.proofs.{Order.{rises_from_money, money-nil}, Amounts.{amount-all, amount-by, amount-added}}
+use Rattle.base_coins.proofs.{Results.{sum_is_money, taken_is_money}, Parts.{by_is_money, below_is, zero_mul_even}}
+use Rattle.base_roles.specs.declared.entities.{Purse.Purse, StartingInfo.StartingInfo, Validator.Validator}
+use Rattle.base_roles.specs.{declared.{facts.Fact.Fact, messages.Vote.Vote}, Entries.{at, with}, Items.no_purse}
+use Rattle.base_roles.specs.{Log.{Log, LogEntry}, Orders.same_addr, Staked.{Staked, validator_at, validator_by_cons}}
 use Rattle.base_roles.specs.Flow.{◌>>=◌}
-use Rattle.rule_modules.specs.Allocation.{share_given, shares_allocated}
-use Rattle.rule_modules.specs.Amounts.{is_empty}
-use Rattle.rule_modules.specs.Chain.{State, with_shared}
+use Rattle.base_roles.specs.declared.facts.Fact.TheVariants as fact
+use Rattle.base_roles.specs.Log as log
+use Rattle.rule_modules.specs.{Allocation.{share_given, shares_allocated}, Amounts.is_empty, Chain.{State, with_shared}}
 use Rattle.rule_modules.specs.Ideal.{history_of}
 use Rattle.rule_modules.specs.Purses.{Purses, purse_of, with_purse, pool_joined, pooled_told, share_joined}
 use Rattle.rule_modules.specs.Sound.{IsSound, PurseIsSound}
-use Rattle.law_rewards.specs.Account.{Start, Account, IsReached, account_after}
-use Rattle.law_rewards.specs.Account as deed
-use Rattle.law_rewards.specs.States.{account_in, AreReached}
-use Rattle.law_rewards.specs.StateLaws.{NoneStartedHere, SharingKeepsReached}
-use Rattle.law_rewards.proofs.Lists.{all_at}
-use Rattle.law_rewards.proofs.Following.{own_addr, other_addr}
-use Rattle.law_rewards.proofs.Denominations.{step_parts}
+use Rattle.law_rewards.specs.{Account.{Start, Account, IsReached, account_after}, States.{account_in, AreReached}}
+use Rattle.law_rewards.{specs.StateLaws.{NoneStartedHere, SharingKeepsReached}, proofs.Lists.all_at}
+use Rattle.law_rewards.proofs.{Following.{own_addr, other_addr}, Denominations.step_parts}
 use Rattle.law_rewards.proofs.Entries.{addr_is, put_there, put_elsewhere, history_behind, history_elsewhere}
-use Rattle.law_rewards.proofs.Reached.{deeds_lead_on}
-use Rattle.law_rewards.proofs.Claims.{if_some, start_with}
-use Rattle.law_rewards.proofs.Endings.{same_account, same_some}
+use Rattle.law_rewards.proofs.{Reached.deeds_lead_on, Claims.{if_some, start_with}, Endings.{same_account, same_some}}
 use Rattle.law_rewards.proofs.Quiet.{same_ok, joined_purses, quiet_reached}
+use Rattle.law_rewards.specs.Account as deed
 
 -- ---- the validator of a vote
 

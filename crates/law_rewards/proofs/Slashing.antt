@@ -1,39 +1,26 @@
 -- The slash of a validator that has tokens is its deed; every other account stays.
-use Rattle.std.proofs.Common.{◌≡◌, ℕ, ◌-◌, ◌^◌, ◌<◌, ◌≤◌, Bool, true, false, List, [], ◌∷◌, ◌++◌, refl, arith, sym, ap, subst, ◌∙◌, Some, Result, Ok, Err}
-use Rattle.std.specs.Prelude.{unwrap_or, is_some}
-use Rattle.std.specs.List.Sorted.{IsStrictlySortedBy}
-use Rattle.std.specs.Map.{keys_of}
+use Rattle.std.proofs.Common.{◌≡◌, ℕ, ◌-◌, ◌^◌, ◌<◌, ◌≤◌, Bool, true, false, List, [], ◌∷◌, ◌++◌, refl, arith, sym, ap, subst, ◌∙◌, Some, Result, Ok, Err, unwrap_or, is_some}
+use Rattle.std.specs.{List.Sorted.IsStrictlySortedBy, Map.keys_of}
 use Rattle.base_decimals.specs.declared.over.Over.{Over}
 use Rattle.base_types.specs.Orders.{addr_cmp}
-use Rattle.base_roles.specs.declared.entities.Validator.{Validator}
-use Rattle.base_roles.specs.declared.facts.Fact.TheVariants as fact
-use Rattle.base_roles.specs.Entries.{at, with}
-use Rattle.base_roles.specs.Log.{Log, LogEntry}
-use Rattle.base_roles.specs.Log as log
-use Rattle.base_roles.specs.Orders.{pair_cmp, same_addr}
-use Rattle.base_roles.specs.Staked.{Staked, validator_at, put_validator}
+use Rattle.base_roles.specs.{declared.entities.Validator.Validator, Entries.{at, with}, Log.{Log, LogEntry}}
+use Rattle.base_roles.specs.{Orders.{pair_cmp, same_addr}, Staked.{Staked, validator_at, put_validator}}
 use Rattle.base_roles.specs.World.{View, gives, World, noted, burnt}
+use Rattle.base_roles.specs.declared.facts.Fact.TheVariants as fact
+use Rattle.base_roles.specs.Log as log
 use Rattle.rule_modules.specs.Chain.{Stakes, State, with_staked}
 use Rattle.rule_modules.specs.Distribution.{Shared, ended, slash_recorded, told_of}
-use Rattle.rule_modules.specs.Periods.{Periods, initial_records, periods_of, event_recorded}
-use Rattle.rule_modules.specs.Slashing.{slash_fraction}
-use Rattle.rule_modules.specs.Stakes.{pool_of}
-use Rattle.rule_modules.specs.Window.{Window}
-use Rattle.law_rewards.specs.Account.{Account, IsReached, account_after}
-use Rattle.law_rewards.specs.Account as deed
-use Rattle.law_rewards.specs.States.{account_in, AreReached}
+use Rattle.rule_modules.specs.{Periods.{Periods, initial_records, periods_of, event_recorded}, Slashing.slash_fraction}
+use Rattle.rule_modules.{specs.{Stakes.pool_of, Window.Window}, proofs.BesideLemmas.raised}
+use Rattle.rule_modules.proofs.SlashParts.{burnt_with, event_put, poorer, slash_noted}
+use Rattle.law_rewards.specs.{Account.{Account, IsReached, account_after}, States.{account_in, AreReached}}
 use Rattle.law_rewards.proofs.Denominations.{step_parts}
 use Rattle.law_rewards.proofs.Entries.{addr_is, put_there, put_elsewhere, history_behind, history_elsewhere}
-use Rattle.law_rewards.proofs.Reached.{deeds_lead_on}
-use Rattle.law_rewards.proofs.Claims.{IsReady, IsEnded, AreLists, closed_account}
+use Rattle.law_rewards.proofs.{Reached.deeds_lead_on, Claims.{IsReady, IsEnded, AreLists, closed_account}}
 use Rattle.law_rewards.proofs.Endings.{same_account, same_some, state_then, closed_is, end_is, ended_reached}
-use Rattle.law_rewards.proofs.Edits.{standing_reached}
-use Rattle.law_rewards.proofs.Quiet.{same_ok}
-use Rattle.law_rewards.proofs.Hooked.{same_told}
-use Rattle.law_rewards.proofs.Growing.{apart_back}
+use Rattle.law_rewards.proofs.{Edits.standing_reached, Quiet.same_ok, Hooked.same_told, Growing.apart_back}
 use Rattle.law_rewards.proofs.Fits.{HasLists, Fits, nobody, put_then, ended_lists, ended_starts, put_fits, ready_fits}
-use Rattle.rule_modules.proofs.BesideLemmas.{raised}
-use Rattle.rule_modules.proofs.SlashParts.{burnt_with, event_put, poorer, slash_noted}
+use Rattle.law_rewards.specs.Account as deed
 
 -- ---- what a slash records and burns
 

@@ -1,43 +1,31 @@
 -- Delegating, unbonding and removing a validator log fair entries alone, and tell the payments that they log.
-use Rattle.std.proofs.Common.{◌≡◌, ℕ, ◌+◌, ◌-◌, ◌==◌, Bool, true, false, List, [], ◌∷◌, ◌++◌, refl, sym, ap, subst, ◌∙◌, Option, Some, None, Result, Ok, Err}
-use Rattle.std.specs.Prelude.{unwrap_or, if◌then◌else◌, ◌&&◌, ◌||◌}
+use Rattle.std.proofs.Common.{◌≡◌, ℕ, ◌+◌, ◌-◌, ◌==◌, Bool, true, false, List, [], ◌∷◌, ◌++◌, refl, sym, ap, subst, ◌∙◌, Option, Some, None, Result, Ok, Err, unwrap_or, if◌then◌else◌, ◌&&◌, ◌||◌}
 use Rattle.base_decimals.specs.declared.over.Over.{Over}
 use Rattle.base_types.specs.declared.account.Account.TheVariants as account
 use Rattle.base_types.specs.declared.account.Module.TheVariants as holder
-use Rattle.base_types.specs.declared.status.BondStatus.{BondStatus}
-use Rattle.base_types.specs.Modules.{module_number}
+use Rattle.base_types.specs.{declared.status.BondStatus.BondStatus, Modules.module_number}
 use Rattle.base_coins.specs.Coins.{Money}
 use Rattle.base_shares.specs.Shares.{amount_out}
-use Rattle.base_roles.specs.declared.entities.Validator.{Validator}
-use Rattle.base_roles.specs.declared.facts.Fact.TheVariants as fact
-use Rattle.base_roles.specs.declared.refusal.Refusal.{Refusal}
-use Rattle.base_roles.specs.declared.refusal.Refusal.TheVariants.{InsufficientFunds, Overflow}
-use Rattle.base_roles.specs.Holdings.{is_short}
-use Rattle.base_roles.specs.Log.{Log}
-use Rattle.base_roles.specs.Log as log
-use Rattle.base_roles.specs.Staked.{Staked, validator_at, delegation, put_validator, is_unbonded}
+use Rattle.base_roles.specs.declared.{entities.Validator.Validator, refusal.Refusal.Refusal}
+use Rattle.base_roles.specs.{declared.refusal.Refusal.TheVariants.{InsufficientFunds, Overflow}, Holdings.is_short}
+use Rattle.base_roles.specs.{Log.Log, Staked.{Staked, validator_at, delegation, put_validator, is_unbonded}}
 use Rattle.base_roles.specs.Flow.{◌>>=◌, stopping}
 use Rattle.base_roles.specs.World.{View, World, gives, call, modifying, modified, noted, sent, over_view, over_mine, logged}
+use Rattle.base_roles.specs.declared.facts.Fact.TheVariants as fact
+use Rattle.base_roles.specs.Log as log
 use Rattle.base_roles.specs.World as hook
-use Rattle.rule_modules.specs.Amounts.{bond_coins, is_empty, over_facts}
-use Rattle.rule_modules.specs.Chain.{Hooks, State, chain_told, staked_in}
+use Rattle.rule_modules.specs.{Amounts.{bond_coins, is_empty, over_facts}, Chain.{Hooks, State, chain_told, staked_in}}
 use Rattle.rule_modules.specs.Delegating.{Origin, wallet, pool, shares_given, paid_in, hook_before, delegated}
 use Rattle.rule_modules.specs.Distribution.{Shared, distribution_told, records_removed, payee_of, paid_to, told_of, unlogged}
-use Rattle.rule_modules.specs.Ideal.{span_of, history_of}
-use Rattle.rule_modules.specs.Periods.{without_periods}
+use Rattle.rule_modules.specs.{Ideal.{span_of, history_of}, Periods.without_periods}
 use Rattle.rule_modules.specs.Purses.{Purses, closed, pooled_told}
 use Rattle.rule_modules.specs.Stakes.{put_delegation, without_shares, without_validator, pool_of}
 use Rattle.rule_modules.specs.Unbonding.{put_in_jail, falls_below_minimum, left_standing, removed_if_empty, validator_removed, unbonded_shares}
-use Rattle.law_rewards.specs.States.{AreReached}
-use Rattle.law_rewards.proofs.Denominations.{step_parts}
-use Rattle.law_rewards.proofs.Claims.{IsReady}
-use Rattle.law_rewards.proofs.Beginnings.{went_on}
+use Rattle.law_rewards.{specs.States.AreReached, proofs.{Denominations.step_parts, Claims.IsReady, Beginnings.went_on}}
 use Rattle.law_rewards.proofs.Quiet.{same_ok, passed}
 use Rattle.law_rewards.proofs.Hooked.{HasOpened, hook_gave, state_told, call_parts, same_told, opened, before_is_idle}
-use Rattle.law_rewards.proofs.Resting.{rests_in}
-use Rattle.law_rewards.proofs.Growing.{more_of, more_world, behind_hook, start_told}
-use Rattle.law_rewards.proofs.Leaving.{less_of}
-use Rattle.law_rewards.proofs.Undelegating.{left_then, leaving}
+use Rattle.law_rewards.proofs.{Resting.rests_in, Growing.{more_of, more_world, behind_hook, start_told}}
+use Rattle.law_rewards.proofs.{Leaving.less_of, Undelegating.{left_then, leaving}}
 use Rattle.law_rewards.proofs.Paying.{Pays, pays_then, pays_nothing, pays_logged, pays_noted, pays_sent, pays_pooled, pays_started, pays_before}
 
 -- what one world tells and logs behind another

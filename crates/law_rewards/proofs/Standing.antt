@@ -3,8 +3,7 @@ use Rattle.std.proofs.Common.{◌≡◌, ℕ, zero, suc, ◌+◌, ◌-◌, ◌*�
 use Rattle.base_decimals.specs.Fractions.{Fraction, fraction_of, IsAtMost}
 use Rattle.base_shares.specs.Burns.{ratio_of, unit, plus}
 use Rattle.rule_modules.specs.Ideal.{Span, Ideal, Brackets, whole, times, ideal_start, ideal_of, stretch_slack, shared_out, stretch_closed}
-use Rattle.law_rewards.proofs.Rounding.{one, one_pos}
-use Rattle.law_rewards.proofs.Exact.{Exact, exact_start, exact_allocated, exact_slashed}
+use Rattle.law_rewards.proofs.{Rounding.{one, one_pos}, Exact.{Exact, exact_start, exact_allocated, exact_slashed}}
 use Rattle.law_rewards.proofs.Keeping.{Bounds}
 
 -- n / x is the start's stake

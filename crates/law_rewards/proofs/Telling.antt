@@ -1,56 +1,39 @@
 -- In a sound state whose accounts are reached, what a message logs is fair, and it tells the payments that it logs.
-use Rattle.std.proofs.Common.{◌≡◌, ℕ, ◌≤◌, ◌==◌, Bool, true, false, List, [], ◌∷◌, ◌++◌, length, refl, sym, ap, subst, ◌∙◌, Some, None, Result, Ok, Err, append_assoc}
-use Rattle.std.specs.Prelude.{IfOk, if◌then◌else◌, not, nat_lt, nat_le, find, is_some, ⊤}
+use Rattle.std.proofs.Common.{◌≡◌, ℕ, ◌≤◌, ◌==◌, Bool, true, false, List, [], ◌∷◌, ◌++◌, length, refl, sym, ap, subst, ◌∙◌, Some, None, Result, Ok, Err, append_assoc, IfOk, if◌then◌else◌, not, nat_lt, nat_le, find, is_some}
+use Rattle.std.specs.Prelude.{⊤}
 use Rattle.base_decimals.specs.Decimals.{trunc_of}
-use Rattle.base_types.specs.declared.account.Account.{Account as Holder}
+use Rattle.base_types.specs.declared.{account.{Account.{Account as Holder}}, status.BondStatus.TheVariants.Unbonded}
+use Rattle.base_types.specs.Orders.{addr_cmp}
 use Rattle.base_types.specs.declared.account.Account.TheVariants as account
 use Rattle.base_types.specs.declared.account.Module.TheVariants as holder
-use Rattle.base_types.specs.declared.status.BondStatus.TheVariants.{Unbonded}
-use Rattle.base_types.specs.Orders.{addr_cmp}
-use Rattle.base_coins.specs.declared.coin.Coin.{Coin}
-use Rattle.base_coins.specs.Coins.{Money}
+use Rattle.base_coins.specs.{declared.coin.Coin.Coin, Coins.Money}
 use Rattle.base_shares.specs.Shares.{amount_out, has_invalid_rate, value_even_of}
-use Rattle.base_roles.specs.declared.entities.Validator.{Validator}
-use Rattle.base_roles.specs.declared.facts.Fact.{Fact}
-use Rattle.base_roles.specs.declared.facts.Fact.TheVariants as fact
-use Rattle.base_roles.specs.declared.messages.CreateValidator.{CreateValidator}
-use Rattle.base_roles.specs.declared.messages.EditValidator.{EditValidator}
+use Rattle.base_roles.specs.declared.{entities.Validator.Validator, facts.Fact.Fact}
+use Rattle.base_roles.specs.declared.messages.{CreateValidator.CreateValidator, EditValidator.EditValidator}
 use Rattle.base_roles.specs.declared.refusal.Refusal.{Refusal}
 use Rattle.base_roles.specs.declared.refusal.Refusal.TheVariants.{InsufficientFunds, WrongDenom, NonPositive, NoValidator, ValidatorExists, ConsKeyExists, CommissionRange, CommissionBelowMinimum, MinSelfNotPositive, NoDelegation, NoCommission, PoolTooSmall, NotAuthority, Overflow, ModuleRecipient, FeeUnpaid, SelfRedelegation, Transitive, RedelegationsFull, TinyRedelegation, UnbondingsFull, RateInvalid, Jailed, NoEntry, CancelTooMuch, NoSelfDelegation, SelfBelowMinimum, NotJailed}
-use Rattle.base_roles.specs.Entries.{at}
-use Rattle.base_roles.specs.Holdings.{is_short}
-use Rattle.base_roles.specs.Log.{Log}
-use Rattle.base_roles.specs.Log as log
-use Rattle.base_roles.specs.Orders.{same_addr}
+use Rattle.base_roles.specs.{Entries.at, Holdings.is_short, Log.Log, Orders.same_addr}
 use Rattle.base_roles.specs.Staked.{Staked, validator_at, validator_by_cons, delegation, is_bonded}
-use Rattle.base_roles.specs.Flow.{◌>>=◌, ◌>>◌, stopping}
-use Rattle.base_roles.specs.World.{View, World, noted, sent, over_view}
-use Rattle.rule_modules.specs.Amounts.{bond_coins, in_units, is_empty}
-use Rattle.rule_modules.specs.Chain.{Hooks, State, chain_told, staked_in, with_staked}
+use Rattle.base_roles.specs.{Flow.{◌>>=◌, ◌>>◌, stopping}, World.{View, World, noted, sent, over_view}}
 use Rattle.base_roles.specs.declared.params.Params.{Params}
-use Rattle.rule_modules.specs.Parameters.{update_params}
-use Rattle.rule_modules.proofs.ParameterLemmas.{on_update}
+use Rattle.base_roles.specs.declared.facts.Fact.TheVariants as fact
+use Rattle.base_roles.specs.Log as log
+use Rattle.rule_modules.specs.Amounts.{bond_coins, in_units, is_empty}
+use Rattle.rule_modules.specs.{Chain.{Hooks, State, chain_told, staked_in, with_staked}, Parameters.update_params}
 use Rattle.rule_modules.specs.Delegating.{is_wrong, wallet, pool, shares_given, delegated, delegated_by}
 use Rattle.rule_modules.specs.Distribution.{Shared, started, payee_of, paid_to, reward_withdrawn, reward_renewed}
 use Rattle.rule_modules.specs.Effects.{coins_sent, send, create_validator, edit_validator, delegate, undelegate, begin_redelegate, cancel_unbonding, unjail, withdraw_reward, withdraw_commission, set_withdraw_address, fund_community_pool, community_pool_spend, fee_paid}
 use Rattle.rule_modules.specs.Purses.{pooled_told, pool_joined, commission_due, is_above_pool}
-use Rattle.rule_modules.specs.Redelegations.{redelegations_of, is_transitive, redelegated}
-use Rattle.rule_modules.specs.Sound.{IsSound}
+use Rattle.rule_modules.specs.{Redelegations.{redelegations_of, is_transitive, redelegated}, Sound.IsSound}
 use Rattle.rule_modules.specs.Unbonding.{shares_to_unbond, unbonded_shares}
 use Rattle.rule_modules.specs.Unbondings.{entries_of, can_be_cancelled, undelegated, cancelled}
 use Rattle.rule_modules.specs.Validators.{new_validator, are_out_of_range, created, edited}
 use Rattle.rule_modules.specs.Window.{may_leave, signing_of, unjailed}
 use Rattle.rule_modules.specs.Withdrawals.{reward_taken, commission_withdrawn, payee_set, pool_funded, pool_spent, is_module}
-use Rattle.law_rewards.specs.States.{AreReached}
-use Rattle.law_rewards.specs.WithdrawalLaws.{PaysFairly, PaysWhereReached, MessagesPayFairly}
-use Rattle.law_rewards.proofs.Claims.{ready_in}
-use Rattle.law_rewards.proofs.Beginnings.{if_ok, under_own}
-use Rattle.law_rewards.proofs.Entries.{put_there}
-use Rattle.law_rewards.proofs.Hooked.{none_of}
-use Rattle.law_rewards.proofs.Growing.{apart_back}
-use Rattle.law_rewards.proofs.Creating.{state_made, made_at, made_ready}
-use Rattle.law_rewards.proofs.Undelegating.{within_held}
-use Rattle.rule_modules.proofs.GoingLemmas.{on_bind, on_next, on_stop, on_found, on_lifted}
+use Rattle.rule_modules.proofs.{ParameterLemmas.on_update, GoingLemmas.{on_bind, on_next, on_stop, on_found, on_lifted}}
+use Rattle.law_rewards.specs.{States.AreReached, WithdrawalLaws.{PaysFairly, PaysWhereReached, MessagesPayFairly}}
+use Rattle.law_rewards.proofs.{Claims.ready_in, Beginnings.{if_ok, under_own}, Entries.put_there, Hooked.none_of}
+use Rattle.law_rewards.proofs.{Growing.apart_back, Creating.{state_made, made_at, made_ready}, Undelegating.within_held}
 use Rattle.law_rewards.proofs.Fits.{LeavesFit, fits_sound, ready_fits, unbonded_fits, unbonded_then}
 use Rattle.law_rewards.proofs.Paying.{Pays, pays_then, pays_nothing, pays_logged, pays_noted, pays_sent, pays_pooled, pays_started, pays_withdrawn, withdrawn_rests}
 use Rattle.law_rewards.proofs.Staking.{PaysIn, pays_delegated, pays_unbonded}

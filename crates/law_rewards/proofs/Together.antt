@@ -1,12 +1,10 @@
 -- Every message keeps accounts reached.
 use Rattle.law_rewards.specs.Changes.{MessagesKeepReached}
 use Rattle.law_rewards.specs.StateLaws.{QuietMessagesKeepReached, StandingMessagesKeepReached}
-use Rattle.law_rewards.proofs.Beginnings.{reward_messages_keep_reached}
-use Rattle.law_rewards.proofs.Quiet.{quiet_messages_keep_reached}
+use Rattle.law_rewards.proofs.{Beginnings.reward_messages_keep_reached, Quiet.quiet_messages_keep_reached}
 use Rattle.law_rewards.proofs.Edits.{standing_messages_keep_reached}
 use Rattle.law_rewards.proofs.Delegating.{delegating_keeps_reached, cancelling_keeps_reached}
-use Rattle.law_rewards.proofs.Creating.{creating_keeps_reached}
-use Rattle.law_rewards.proofs.Undelegating.{undelegating_keeps_reached}
+use Rattle.law_rewards.proofs.{Creating.creating_keeps_reached, Undelegating.undelegating_keeps_reached}
 use Rattle.law_rewards.proofs.Redelegating.{redelegating_keeps_reached}
 
 pub messages_keep_reached : MessagesKeepReached

@@ -1,33 +1,22 @@
 -- A message that asks for a reward tells its payment.
-use Rattle.std.proofs.Common.{◌≡◌, ℕ, List, [], ◌∷◌, ◌++◌, Result, Ok, refl, sym, ap, subst, ◌∙◌, append_assoc}
-use Rattle.std.specs.Prelude.{unwrap_or}
+use Rattle.std.proofs.Common.{◌≡◌, ℕ, List, [], ◌∷◌, ◌++◌, Result, Ok, refl, sym, ap, subst, ◌∙◌, append_assoc, unwrap_or}
 use Rattle.base_decimals.specs.declared.over.Over.{Over}
 use Rattle.base_types.specs.declared.account.Account.TheVariants as account
 use Rattle.base_types.specs.declared.account.Module.TheVariants as holder
 use Rattle.base_types.specs.Orders.{addr_cmp}
 use Rattle.base_coins.specs.Coins.{Money, whole_coins, fractions}
 use Rattle.base_shares.specs.Shares.{value_cut_of}
-use Rattle.base_roles.specs.declared.entities.Validator.{Validator}
-use Rattle.base_roles.specs.declared.facts.Fact.{Fact}
+use Rattle.base_roles.specs.declared.{entities.Validator.Validator, facts.Fact.Fact}
+use Rattle.base_roles.specs.{declared.refusal.Refusal.TheVariants.{NoValidator, NoDelegation, Overflow}, Entries.at}
+use Rattle.base_roles.specs.{Flow.{◌>>=◌}, Log.Log, Staked.{validator_at, delegation}, World.View}
 use Rattle.base_roles.specs.declared.facts.Fact.TheVariants as fact
-use Rattle.base_roles.specs.declared.refusal.Refusal.TheVariants.{NoValidator, NoDelegation, Overflow}
-use Rattle.base_roles.specs.Entries.{at}
-use Rattle.base_roles.specs.Flow.{◌>>=◌}
-use Rattle.base_roles.specs.Log.{Log}
-use Rattle.base_roles.specs.Staked.{validator_at, delegation}
-use Rattle.base_roles.specs.World.{View}
 use Rattle.rule_modules.specs.Distribution.{Shared, current_taken, ended, payee_of, paid_to, reward_withdrawn, reward_renewed}
-use Rattle.rule_modules.specs.Periods.{Periods, periods_of, period_ended, last_ended}
-use Rattle.rule_modules.specs.Purses.{Purses, pooled_told}
-use Rattle.rule_modules.specs.Withdrawals.{reward_taken}
-use Rattle.law_rewards.specs.WithdrawalLaws.{TellsPayment, RewardsAreTold}
-use Rattle.law_rewards.proofs.Beginnings.{under_own}
+use Rattle.rule_modules.specs.{Periods.{Periods, periods_of, period_ended, last_ended}, Purses.{Purses, pooled_told}}
+use Rattle.rule_modules.{specs.Withdrawals.reward_taken, proofs.GoingLemmas.{on_bind, on_found}}
+use Rattle.law_rewards.{specs.WithdrawalLaws.{TellsPayment, RewardsAreTold}, proofs.Beginnings.under_own}
 use Rattle.law_rewards.proofs.Denominations.{step_parts}
-use Rattle.law_rewards.proofs.Paying.{Pays, ended_with, pays_ended, pays_pooled, pays_sent, pays_then}
-use Rattle.law_rewards.proofs.Quiet.{same_ok}
-use Rattle.law_rewards.proofs.Telling.{on_then, lifted_if}
-use Rattle.rule_modules.proofs.GoingLemmas.{on_bind, on_found}
-use Rattle.law_rewards.proofs.Withdrawing.{IsMade, made_is}
+use Rattle.law_rewards.proofs.{Paying.{Pays, ended_with, pays_ended, pays_pooled, pays_sent, pays_then}, Quiet.same_ok}
+use Rattle.law_rewards.proofs.{Telling.{on_then, lifted_if}, Withdrawing.{IsMade, made_is}}
 
 -- the end of a period changes no payee
 payees_stay : (v : Validator) (d : Shared) (u : View) (z : ℕ × Shared × View × Log) → ended v d u ≡ Ok z → z.1.withdraw ≡ d.withdraw

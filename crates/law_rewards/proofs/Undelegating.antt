@@ -1,53 +1,33 @@
 -- Unbonding shares, and the message that undelegates, keep accounts reached.
-use Rattle.std.proofs.Common.{◌≡◌, ℕ, ◌+◌, ◌-◌, ◌<◌, ◌≤◌, ◌==◌, Bool, true, false, List, [], length, refl, arith, sym, ap, subst, ◌∙◌, Option, Some, Result, Ok}
-use Rattle.std.specs.Prelude.{unwrap_or, ◌||◌, if◌then◌else◌, nat_lt, nat_le}
-use Rattle.std.specs.List.{slice_get}
-use Rattle.std.specs.List.Sorted.{IsStrictlySortedBy}
-use Rattle.std.specs.Map.{keys_of}
-use Rattle.std.specs.BTreeMap.{is_at}
-use Rattle.std.proofs.lemmas.Bool.Decides.{nat_tests}
-use Rattle.std.proofs.lemmas.List.Elements.{recursion_from_All}
-use Rattle.std.proofs.lemmas.Map.Entries.{place_from_lookup}
+use Rattle.std.proofs.Common.{◌≡◌, ℕ, ◌+◌, ◌-◌, ◌<◌, ◌≤◌, ◌==◌, Bool, true, false, List, [], length, refl, arith, sym, ap, subst, ◌∙◌, Option, Some, Result, Ok, unwrap_or, ◌||◌, if◌then◌else◌, nat_lt, nat_le, slice_get}
+use Rattle.std.specs.{List.Sorted.IsStrictlySortedBy, Map.keys_of, BTreeMap.is_at}
+use Rattle.std.proofs.lemmas.{Bool.Decides.nat_tests, List.Elements.recursion_from_All, Map.Entries.place_from_lookup}
 use Rattle.base_decimals.specs.declared.over.Over.{Over}
 use Rattle.base_types.specs.declared.account.Account.TheVariants as account
 use Rattle.base_types.specs.declared.account.Module.TheVariants as holder
 use Rattle.base_types.specs.Orders.{addr_cmp}
 use Rattle.base_coins.specs.declared.coin.Coin.{Coin}
 use Rattle.base_shares.specs.Shares.{amount_out, shares_for_amount}
-use Rattle.base_roles.specs.declared.entities.UnbondingEntry.{UnbondingEntry}
-use Rattle.base_roles.specs.declared.entities.Validator.{Validator}
-use Rattle.base_roles.specs.declared.facts.Fact.TheVariants as fact
+use Rattle.base_roles.specs.declared.entities.{UnbondingEntry.UnbondingEntry, Validator.Validator}
 use Rattle.base_roles.specs.declared.refusal.Refusal.{Refusal}
 use Rattle.base_roles.specs.declared.refusal.Refusal.TheVariants.{WrongDenom, NonPositive, NoValidator, NoDelegation, NoTokens, TooManyShares, UnbondingsFull, Overflow}
-use Rattle.base_roles.specs.Log.{Log}
-use Rattle.base_roles.specs.Log as log
-use Rattle.base_roles.specs.Orders.{pair_cmp, same_addr}
+use Rattle.base_roles.specs.{Log.Log, Orders.{pair_cmp, same_addr}}
 use Rattle.base_roles.specs.Staked.{Staked, validator_at, delegation, put_validator, is_bonded}
 use Rattle.base_roles.specs.Flow.{◌>>=◌, ◌>>◌, stop_if, or_stop, stopping}
 use Rattle.base_roles.specs.World.{View, gives, World, call, modifying, modified, sent, noted, over_view, over_mine, logged}
-use Rattle.rule_modules.proofs.EntryLemmas.{ascend-put}
-use Rattle.rule_modules.proofs.OrderLemmas.{addr_total}
-use Rattle.rule_modules.specs.Amounts.{bond_coins}
+use Rattle.base_roles.specs.declared.facts.Fact.TheVariants as fact
+use Rattle.base_roles.specs.Log as log
+use Rattle.rule_modules.{proofs.{EntryLemmas.ascend-put, OrderLemmas.addr_total}, specs.Amounts.bond_coins}
 use Rattle.rule_modules.specs.Chain.{Hooks, State, chain_told, staked_in, with_staked}
-use Rattle.rule_modules.specs.Delegating.{is_wrong, hook_before}
-use Rattle.rule_modules.specs.Distribution.{Shared, distribution_told}
-use Rattle.rule_modules.specs.Effects.{undelegate}
-use Rattle.rule_modules.specs.Sound.{IsSound}
-use Rattle.rule_modules.specs.Stakes.{put_delegation, without_shares}
+use Rattle.rule_modules.specs.{Delegating.{is_wrong, hook_before}, Distribution.{Shared, distribution_told}}
+use Rattle.rule_modules.specs.{Effects.undelegate, Sound.IsSound, Stakes.{put_delegation, without_shares}}
 use Rattle.rule_modules.specs.Unbonding.{shares_to_unbond, put_in_jail, falls_below_minimum, left_standing, unbonded_shares, removed_if_empty}
 use Rattle.rule_modules.specs.Unbondings.{UnbondingLists, entries_of, with_entries, grown, completion, undelegated}
-use Rattle.law_rewards.specs.Account.{IsReached, counted_shares}
-use Rattle.law_rewards.specs.States.{account_in, AreReached}
-use Rattle.law_rewards.specs.StateLaws.{ReachedStays}
-use Rattle.law_rewards.specs.Changes.{UndelegatingKeepsReached}
-use Rattle.law_rewards.proofs.Lists.{all_at}
-use Rattle.law_rewards.proofs.Denominations.{step_parts}
-use Rattle.law_rewards.proofs.Entries.{addr_is, put_there, put_elsewhere}
-use Rattle.law_rewards.proofs.Endings.{same_some}
-use Rattle.law_rewards.proofs.Beginnings.{state_begun, found_is, went_on, if_ok, under_own}
-use Rattle.law_rewards.proofs.Edits.{found_own}
-use Rattle.law_rewards.proofs.Quiet.{same_ok, passed}
-use Rattle.law_rewards.proofs.Claims.{ready_in}
+use Rattle.law_rewards.specs.{Account.{IsReached, counted_shares}, States.{account_in, AreReached}}
+use Rattle.law_rewards.{specs.{StateLaws.ReachedStays, Changes.UndelegatingKeepsReached}, proofs.Lists.all_at}
+use Rattle.law_rewards.proofs.{Denominations.step_parts, Entries.{addr_is, put_there, put_elsewhere}, Endings.same_some}
+use Rattle.law_rewards.proofs.{Beginnings.{state_begun, found_is, went_on, if_ok, under_own}, Edits.found_own}
+use Rattle.law_rewards.proofs.{Quiet.{same_ok, passed}, Claims.ready_in}
 use Rattle.law_rewards.proofs.Hooked.{hook_gave, call_parts, IsOpen, HasOpened, state_told, opened}
 use Rattle.law_rewards.proofs.Growing.{over_stake, start_told, not_stopped}
 use Rattle.law_rewards.proofs.Leaving.{MayLeave, less_of, state_less, less_reached, none_left, some_left, emptied_reached}

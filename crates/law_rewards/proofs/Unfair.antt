@@ -1,18 +1,13 @@
 -- Withdrawals that are not fair: that pay nothing, or twice as much, or again, or send nothing; and a start without one.
-use Rattle.std.proofs.Common.{◌≡◌, ◌≢◌, ℕ, ◌-◌, ◌*◌, ◌^◌, ◌≤◌, Bool, true, false, List, [], ◌∷◌, ◌++◌, refl, arith, sym, ap, subst, ◌∙◌, Option, Some, None, min, mul-le-mul_right}
-use Rattle.std.specs.Prelude.{if◌then◌else◌, is_some, nat_le}
+use Rattle.std.proofs.Common.{◌≡◌, ◌≢◌, ℕ, ◌-◌, ◌*◌, ◌^◌, ◌≤◌, Bool, true, false, List, [], ◌∷◌, ◌++◌, refl, arith, sym, ap, subst, ◌∙◌, Option, Some, None, min, mul-le-mul_right, if◌then◌else◌, is_some, nat_le}
 use Rattle.std.proofs.lemmas.Bool.Decides.{nat_tests}
 use Rattle.base_types.specs.declared.account.Account.TheVariants as account
 use Rattle.base_types.specs.declared.account.Module.TheVariants as holder
-use Rattle.base_coins.specs.Coins.{Money, IsMoney, amount_of, smaller_of, fractions}
-use Rattle.base_coins.proofs.Order.{rises_from_money}
+use Rattle.base_coins.{specs.Coins.{Money, IsMoney, amount_of, smaller_of, fractions}, proofs.Order.rises_from_money}
 use Rattle.base_coins.proofs.Amounts.{amount-all}
-use Rattle.base_roles.specs.declared.facts.Fact.{Fact}
+use Rattle.base_roles.specs.{declared.facts.Fact.Fact, Holdings.transfer_told}
 use Rattle.base_roles.specs.declared.facts.Fact.TheVariants as fact
-use Rattle.base_roles.specs.Holdings.{transfer_told}
-use Rattle.rule_modules.specs.Amounts.{is_empty}
-use Rattle.rule_modules.specs.Fixtures.{addr, uatom}
-use Rattle.rule_modules.specs.Ideal.{Span, Brackets, span_of, history_of}
+use Rattle.rule_modules.specs.{Amounts.is_empty, Fixtures.{addr, uatom}, Ideal.{Span, Brackets, span_of, history_of}}
 use Rattle.rule_modules.specs.Purses.{pooled_told}
 use Rattle.law_rewards.specs.Withdrawals.{IsFairReward, reward_paid, overclaim_in}
 use Rattle.law_rewards.specs.Worked.{shared_fees, unpaid_leave, NothingIsUnfair, TwiceIsUnfair, OtherOutstandingIsUnfair, AgainIsUnfair, UnpaidStartIsUnfair, UnsentIsUnfair, GoneUnpaidIsUnfair}

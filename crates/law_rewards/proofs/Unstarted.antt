@@ -1,52 +1,31 @@
 -- Without a start of a delegation its rewards do not run by the log: entries, hooks and the rules of staking keep it so. So in a
 -- sound state none run where no validator stands.
-use Rattle.std.proofs.Common.{◌≡◌, ℕ, ◌*◌, Bool, true, false, cond, List, [], ◌∷◌, ◌++◌, refl, sym, ap, subst, ◌∙◌, Option, Some, None, Result, Ok, Err}
-use Rattle.std.specs.Prelude.{is_some, ◌&&◌, IfOk, not}
-use Rattle.std.specs.Map.{lookup}
-use Rattle.std.specs.BTreeMap.{is_at}
+use Rattle.std.proofs.Common.{◌≡◌, ℕ, ◌*◌, Bool, true, false, cond, List, [], ◌∷◌, ◌++◌, refl, sym, ap, subst, ◌∙◌, Option, Some, None, Result, Ok, Err, is_some, ◌&&◌, IfOk, not}
+use Rattle.std.specs.{Map.lookup, BTreeMap.is_at}
 use Rattle.base_coins.specs.Coins.{Money}
-use Rattle.base_shares.specs.Burns.{ratio_of}
-use Rattle.base_shares.specs.Shares.{value_cut_of}
-use Rattle.base_roles.specs.declared.entities.StartingInfo.{StartingInfo}
-use Rattle.base_roles.specs.declared.entities.Validator.{Validator}
-use Rattle.base_roles.specs.declared.refusal.Refusal.TheVariants.{WithdrawFixed}
-use Rattle.base_roles.specs.Log.{Log, LogEntry}
+use Rattle.base_shares.specs.{Burns.ratio_of, Shares.value_cut_of}
+use Rattle.base_roles.specs.declared.entities.{StartingInfo.StartingInfo, Validator.Validator}
+use Rattle.base_roles.specs.{declared.refusal.Refusal.TheVariants.WithdrawFixed, Log.{Log, LogEntry}}
+use Rattle.base_roles.specs.{Orders.{pair_cmp, same_addr}, Staked.{validator_at, delegation}, World.View, Entries.with}
 use Rattle.base_roles.specs.Log as log
-use Rattle.base_roles.specs.Orders.{pair_cmp, same_addr}
-use Rattle.base_roles.specs.Staked.{validator_at, delegation}
-use Rattle.base_roles.specs.World.{View}
-use Rattle.rule_modules.proofs.EntryLemmas.{at-put}
-use Rattle.rule_modules.proofs.OrderLemmas.{pair_total, pair_found}
+use Rattle.rule_modules.proofs.{EntryLemmas.at-put, OrderLemmas.{pair_total, pair_found}, GoingLemmas.on_stop}
 use Rattle.rule_modules.specs.Chain.{State, allocation_step, vote_step, evidence_step, set_step, maturing_step, unbondings_step, redelegations_step}
-use Rattle.rule_modules.specs.Parameters.{update_params}
-use Rattle.rule_modules.specs.Distribution.{Shared, started, records_made, payee_of}
+use Rattle.rule_modules.specs.{Parameters.update_params, Distribution.{Shared, started, records_made, payee_of}}
 use Rattle.rule_modules.specs.Ideal.{Span, behind, history_of, span_with, span_of}
 use Rattle.rule_modules.specs.Periods.{Rewards, periods_of, start_of, with_start, without_start, last_ended}
-use Rattle.rule_modules.specs.Purses.{Purses}
-use Rattle.rule_modules.specs.Sound.{IsSound}
-use Rattle.law_rewards.specs.States.{AreReached}
-use Rattle.law_rewards.specs.Running.{IsMadeAtRest, AreMadeAtRest, RunFromStarts, AreStarted, NoneRunsWithoutValidator, RewardsRunExactlyWhereHeld, StartedStays, MessagesKeepStarted, BlocksKeepStarted}
-use Rattle.law_rewards.proofs.Following.{now_is, own_addr}
-use Rattle.law_rewards.proofs.Entries.{addr_is, history_behind, history_elsewhere}
-use Rattle.law_rewards.proofs.Claims.{ready_in}
-use Rattle.law_rewards.proofs.Beginnings.{under_own}
-use Rattle.law_rewards.proofs.Hooked.{none_of}
-use Rattle.law_rewards.proofs.Resting.{runs_where_held}
-use Rattle.law_rewards.proofs.Growing.{apart_back}
-use Rattle.law_rewards.proofs.Leaving.{taken_elsewhere, pair_elsewhere}
-use Rattle.law_rewards.proofs.Creating.{nobody_has}
-use Rattle.law_rewards.proofs.Paying.{in_turn_joined}
-use Rattle.base_types.specs.declared.account.Account.{Account as Holder}
-use Rattle.base_types.specs.declared.account.Account.TheVariants as account
-use Rattle.base_types.specs.Orders.{addr_cmp}
-use Rattle.base_roles.specs.Entries.{with}
+use Rattle.rule_modules.specs.{Purses.Purses, Sound.IsSound}
 use Rattle.rule_modules.specs.Effects.{send, create_validator, edit_validator, delegate, undelegate, begin_redelegate, cancel_unbonding, unjail, withdraw_reward, withdraw_commission, set_withdraw_address, fund_community_pool, community_pool_spend, fee_paid}
 use Rattle.rule_modules.specs.Withdrawals.{payee_set}
-use Rattle.law_rewards.proofs.Telling.{on_then}
-use Rattle.rule_modules.proofs.GoingLemmas.{on_stop}
-use Rattle.law_rewards.proofs.Carried.{IsPlain, IsCarried, nothing_logged}
+use Rattle.law_rewards.specs.States.{AreReached}
+use Rattle.law_rewards.specs.Running.{IsMadeAtRest, AreMadeAtRest, RunFromStarts, AreStarted, NoneRunsWithoutValidator, RewardsRunExactlyWhereHeld, StartedStays, MessagesKeepStarted, BlocksKeepStarted}
+use Rattle.law_rewards.proofs.{Following.{now_is, own_addr}, Entries.{addr_is, history_behind, history_elsewhere}}
+use Rattle.law_rewards.proofs.{Claims.ready_in, Beginnings.under_own, Hooked.none_of, Resting.runs_where_held}
+use Rattle.law_rewards.proofs.{Growing.apart_back, Leaving.{taken_elsewhere, pair_elsewhere}, Creating.nobody_has}
+use Rattle.law_rewards.proofs.{Paying.in_turn_joined, Telling.on_then, Carried.{IsPlain, IsCarried, nothing_logged}}
 use Rattle.law_rewards.proofs.CarriedSlashes.{vote_carried, evidence_carried}
 use Rattle.law_rewards.proofs.CarriedSteps.{fee_carried, send_carried, create_carried, edit_carried, delegate_carried, undelegate_carried, redelegate_carried, cancel_carried, unjail_carried, reward_carried, commission_carried, fund_carried, spend_carried, update_carried, allocation_carried, set_carried, maturing_carried, unbondings_carried, redelegations_carried}
+use Rattle.base_types.specs.{declared.{account.{Account.{Account as Holder}}}, Orders.addr_cmp}
+use Rattle.base_types.specs.declared.account.Account.TheVariants as account
 
 -- ---- entries
 

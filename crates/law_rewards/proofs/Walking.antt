@@ -1,11 +1,7 @@
 -- The reward and the claim of a start, as the records change.
-use Rattle.std.proofs.Common.{◌≡◌, ℕ, ◌+◌, ◌-◌, ◌*◌, ◌<◌, ◌≤◌, Bool, true, false, cond, List, [], ◌∷◌, ◌++◌, map, filter, refl, arith, ap, ap₂, ◌∙◌, min}
-use Rattle.std.specs.Prelude.{sum}
-use Rattle.std.specs.List.{AllByRecursion}
-use Rattle.std.proofs.lemmas.List.Sums.{sum_by-cons}
-use Rattle.std.proofs.lemmas.List.Elements.{filter-append}
-use Rattle.base_roles.specs.declared.entities.StartingInfo.{StartingInfo}
-use Rattle.base_roles.specs.declared.entities.SlashEvent.{SlashEvent}
+use Rattle.std.proofs.Common.{◌≡◌, ℕ, ◌+◌, ◌-◌, ◌*◌, ◌<◌, ◌≤◌, Bool, true, false, cond, List, [], ◌∷◌, ◌++◌, map, filter, refl, arith, ap, ap₂, ◌∙◌, min, sum}
+use Rattle.std.{specs.List.AllByRecursion, proofs.lemmas.List.{Sums.sum_by-cons, Elements.filter-append}}
+use Rattle.base_roles.specs.declared.entities.{StartingInfo.StartingInfo, SlashEvent.SlashEvent}
 use Rattle.rule_modules.specs.Periods.{Periods, Stretch, ratio_at, falls_after, slashed_stake, stretches, stretches_of, unlimited_stretches, unlimited_stretches_of}
 use Rattle.rule_modules.specs.Laws.{exact_claim}
 use Rattle.law_rewards.specs.Account.{product_cut, earned_in, ratio_in}

@@ -1,40 +1,29 @@
 -- A withdrawal as it happens is fair.
-use Rattle.std.proofs.Common.{◌≡◌, ℕ, ◌-◌, ◌*◌, ◌^◌, ◌≤◌, List, [], ◌∷◌, ◌++◌, refl, arith, sym, ap, subst, ◌∙◌, Option, Some, None, Result, Ok}
-use Rattle.std.specs.Prelude.{unwrap_or, is_some}
+use Rattle.std.proofs.Common.{◌≡◌, ℕ, ◌-◌, ◌*◌, ◌^◌, ◌≤◌, List, [], ◌∷◌, ◌++◌, refl, arith, sym, ap, subst, ◌∙◌, Option, Some, None, Result, Ok, unwrap_or, is_some}
 use Rattle.std.proofs.lemmas.List.Elements.{recursion_from_All}
 use Rattle.base_decimals.specs.declared.over.Over.{Over}
 use Rattle.base_types.specs.Orders.{addr_cmp}
 use Rattle.base_coins.specs.Coins.{Money, IsMoney, amount_of, smaller_of, whole_coins, coins_taken, fractions}
 use Rattle.base_shares.specs.Shares.{value_even_of}
-use Rattle.base_roles.specs.declared.entities.Purse.{Purse}
-use Rattle.base_roles.specs.declared.entities.StartingInfo.{StartingInfo}
-use Rattle.base_roles.specs.declared.entities.Validator.{Validator}
+use Rattle.base_roles.specs.declared.entities.{Purse.Purse, StartingInfo.StartingInfo, Validator.Validator}
+use Rattle.base_roles.specs.{Entries.at, Log.Log, Staked.{validator_at, delegation}, Flow.{◌>>=◌}, World.{View, noted}}
 use Rattle.base_roles.specs.declared.facts.Fact.TheVariants as fact
-use Rattle.base_roles.specs.Entries.{at}
-use Rattle.base_roles.specs.Log.{Log}
 use Rattle.base_roles.specs.Log as log
-use Rattle.base_roles.specs.Staked.{validator_at, delegation}
-use Rattle.base_roles.specs.Flow.{◌>>=◌}
-use Rattle.base_roles.specs.World.{View, noted}
-use Rattle.rule_modules.specs.Amounts.{over_facts, count_where}
-use Rattle.rule_modules.specs.Chain.{State}
+use Rattle.rule_modules.specs.{Amounts.{over_facts, count_where}, Chain.State}
 use Rattle.rule_modules.specs.Distribution.{Shared, ended, reward_due, reward_withdrawn, payee_of, paid_to}
 use Rattle.rule_modules.specs.Ideal.{Span, Brackets, span_of, history_of, is_left, overclaim_of}
 use Rattle.rule_modules.specs.Periods.{periods_of, start_of, without_start, ratio_at, reward_at}
 use Rattle.rule_modules.specs.Purses.{Purses, purse_of, with_purse, pool_joined, paid_out, pooled_told}
 use Rattle.law_rewards.specs.Account.{Start, Account, IsReached, reward_now}
-use Rattle.law_rewards.specs.Account as deed
 use Rattle.law_rewards.specs.Laws.{IsStartBracketed, IsCutWithin, overclaim}
 use Rattle.law_rewards.specs.States.{starts_in, account_in, AreReached}
 use Rattle.law_rewards.specs.Withdrawals.{raised_in, outstanding_in, IsFairReward}
-use Rattle.law_rewards.specs.WithdrawalLaws.{IsFairWithdrawal, WithdrawalsAreFair}
-use Rattle.law_rewards.proofs.Denominations.{step_parts}
+use Rattle.law_rewards.{specs.WithdrawalLaws.{IsFairWithdrawal, WithdrawalsAreFair}, proofs.Denominations.step_parts}
 use Rattle.law_rewards.proofs.Reached.{deeds_lead_on, rewards_are_bracketed, cut_is_bounded}
 use Rattle.law_rewards.proofs.Claims.{IsReady, ready_in, IsEnded, closed_account, closed_history, closed_full, due_parts, some_of, start_with, own_start}
-use Rattle.law_rewards.proofs.Endings.{state_then, closed_is, end_is}
-use Rattle.law_rewards.proofs.Quiet.{same_ok}
-use Rattle.law_rewards.proofs.Rising.{raised_reached}
+use Rattle.law_rewards.proofs.{Endings.{state_then, closed_is, end_is}, Quiet.same_ok, Rising.raised_reached}
 use Rattle.law_rewards.proofs.Holding.{outstanding_reached}
+use Rattle.law_rewards.specs.Account as deed
 
 -- ---- what a withdrawal answers and leaves
 

@@ -1,19 +1,13 @@
 -- What the rules of distribution carry on, messages that name no payee and the parts of a block do.
-use Rattle.std.proofs.Common.{List, [], ◌∷◌}
-use Rattle.std.specs.Prelude.{IfOk}
-use Rattle.base_roles.specs.declared.messages.Evidence.{Evidence}
-use Rattle.base_roles.specs.declared.messages.Vote.{Vote}
-use Rattle.base_roles.specs.Log.{Log}
-use Rattle.base_roles.specs.Flow.{◌>>=◌, each}
+use Rattle.std.proofs.Common.{List, [], ◌∷◌, IfOk}
+use Rattle.base_roles.specs.{declared.messages.{Evidence.Evidence, Vote.Vote}, Log.Log, Flow.{◌>>=◌, each}}
 use Rattle.base_messages.specs.declared.message.Msg.{Msg}
 use Rattle.base_messages.specs.declared.message.Msg.TheVariants as msg
 use Rattle.rule_machine.specs.Messages.{effect_of}
 use Rattle.rule_modules.specs.Chain.{State, allocation_step, begin_block, end_block, evidence_step, maturing_step, redelegations_step, set_step, unbondings_step, vote_step}
-use Rattle.rule_modules.specs.Distribution.{Shared}
-use Rattle.rule_modules.specs.Sound.{IsSound}
+use Rattle.rule_modules.specs.{Distribution.Shared, Sound.IsSound}
 use Rattle.law_soundness.proofs.Steps.{on_then}
-use Rattle.law_rewards.proofs.Carried.{IsCarried}
-use Rattle.law_rewards.proofs.CarriedSlashes.{vote_carried, evidence_carried}
+use Rattle.law_rewards.proofs.{Carried.IsCarried, CarriedSlashes.{vote_carried, evidence_carried}}
 use Rattle.law_rewards.proofs.CarriedSteps.{send_carried, edit_carried, unjail_carried, commission_carried, fund_carried, spend_carried, update_carried, reward_carried, delegate_carried, cancel_carried, undelegate_carried, redelegate_carried, create_carried, allocation_carried, set_carried, maturing_carried, unbondings_carried, redelegations_carried}
 
 -- a message that does not say to whom payments go

@@ -1,17 +1,11 @@
 -- What a genesis and blocks lead to has reached accounts, so claims are bracketed there, and shortfalls bounded.
 use Rattle.std.proofs.Common.{length}
-use Rattle.rule_machine.specs.GenesisState.{chain_started}
-use Rattle.rule_machine.specs.Promises.{ClaimsAreBracketed, ShortfallsAreBounded, run_in}
-use Rattle.law_soundness.proofs.Starting.{IsWellStarted, room, runs_are_sound, started_well}
-use Rattle.law_soundness.proofs.Steps.{from_if}
-use Rattle.law_rewards.specs.States.{AreReached}
-use Rattle.law_rewards.proofs.Claims.{reached_is_bracketed, reached_has_shortfall_within}
-use Rattle.law_rewards.proofs.Holding.{outstanding_is_logged}
-use Rattle.law_rewards.proofs.Unstarted.{rewards_run_exactly_where_held}
+use Rattle.rule_machine.specs.{GenesisState.chain_started, Promises.{ClaimsAreBracketed, ShortfallsAreBounded, run_in}}
+use Rattle.law_soundness.proofs.{Starting.{IsWellStarted, room, runs_are_sound, started_well}, Steps.from_if}
+use Rattle.law_rewards.{specs.States.AreReached, proofs.Claims.{reached_is_bracketed, reached_has_shortfall_within}}
+use Rattle.law_rewards.proofs.{Holding.outstanding_is_logged, Unstarted.rewards_run_exactly_where_held}
 use Rattle.law_runs.specs.RunLaws.{RunsAreReached, RunsRunWhereHeld, RunsLogOutstanding}
-use Rattle.law_runs.proofs.Running.{runs_keep_reached}
-use Rattle.law_runs.proofs.Starts.{genesis_is_reached}
-use Rattle.law_runs.proofs.Unstarted.{runs_are_started}
+use Rattle.law_runs.proofs.{Running.runs_keep_reached, Starts.genesis_is_reached, Unstarted.runs_are_started}
 
 pub runs_are_reached : RunsAreReached
 runs_are_reached = λ r.

@@ -1,29 +1,17 @@
 -- Each block of a run says fairly what it pays, and leaves reached accounts and rewards that run exactly where delegations stand.
-use Rattle.std.proofs.Common.{◌≡◌, ℕ, suc, ◌+◌, ◌^◌, ◌<◌, ◌≤◌, List, [], ◌∷◌, ◌++◌, length, Result, Ok, Err, sym, subst, arith, append-nil, append_assoc}
-use Rattle.std.specs.Prelude.{All, IfOk, Contains}
+use Rattle.std.proofs.Common.{◌≡◌, ℕ, suc, ◌+◌, ◌^◌, ◌<◌, ◌≤◌, List, [], ◌∷◌, ◌++◌, length, Result, Ok, Err, sym, subst, arith, append-nil, append_assoc, All, IfOk, Contains}
 use Rattle.std.proofs.lemmas.List.Elements.{All-head, All-tail}
 use Rattle.base_roles.specs.Log.{Log}
-use Rattle.base_messages.specs.declared.block.Block.{Block}
-use Rattle.base_messages.specs.declared.faults.BlockFault.{BlockFault}
-use Rattle.rule_machine.specs.GenesisState.{chain_started}
-use Rattle.rule_machine.specs.Machine.{Step, step}
-use Rattle.rule_machine.specs.Promises.{TxHasCoins}
+use Rattle.base_messages.specs.declared.{block.Block.Block, faults.BlockFault.BlockFault}
+use Rattle.rule_machine.specs.{GenesisState.chain_started, Machine.{Step, step}, Promises.TxHasCoins}
 use Rattle.rule_modules.specs.Chain.{State}
-use Rattle.law_soundness.proofs.Burns.{total_in}
-use Rattle.law_soundness.proofs.Points.{StateFits, to_fits}
-use Rattle.law_soundness.proofs.Running.{HaveCoins, StepFits, block_fits}
-use Rattle.law_soundness.proofs.Starting.{IsWellStarted, room, started_well}
-use Rattle.law_soundness.proofs.Steps.{from_if}
-use Rattle.law_rewards.specs.States.{AreReached}
-use Rattle.law_rewards.specs.Running.{IsMadeAtRest, AreMadeAtRest, AreStarted}
-use Rattle.law_rewards.specs.Withdrawals.{AreInTurn}
-use Rattle.law_rewards.proofs.Unstarted.{rewards_run_exactly_where_held}
-use Rattle.law_runs.specs.Runs.{SaysFairly}
-use Rattle.law_runs.specs.Going.{GoesFairly, BlocksGoFairly, RunGoesFairly, RunsGoFairly}
-use Rattle.law_runs.proofs.Running.{sound_at, block_reached}
-use Rattle.law_runs.proofs.Starts.{genesis_is_reached}
-use Rattle.law_runs.proofs.Unstarted.{block_started, start_is_started}
-use Rattle.law_runs.proofs.Saying.{block_paid}
+use Rattle.law_soundness.proofs.{Burns.total_in, Points.{StateFits, to_fits}, Running.{HaveCoins, StepFits, block_fits}}
+use Rattle.law_soundness.proofs.{Starting.{IsWellStarted, room, started_well}, Steps.from_if}
+use Rattle.law_rewards.specs.{States.AreReached, Running.{IsMadeAtRest, AreMadeAtRest, AreStarted}}
+use Rattle.law_rewards.{specs.Withdrawals.AreInTurn, proofs.Unstarted.rewards_run_exactly_where_held}
+use Rattle.law_runs.specs.{Runs.SaysFairly, Going.{GoesFairly, BlocksGoFairly, RunGoesFairly, RunsGoFairly}}
+use Rattle.law_runs.proofs.{Running.{sound_at, block_reached}, Starts.genesis_is_reached}
+use Rattle.law_runs.proofs.{Unstarted.{block_started, start_is_started}, Saying.block_paid}
 
 -- what holds of a log's entries in turn holds of those behind its beginning
 in_turn_behind : {A : Type 0} (Q : List A → A → Type 0) (before a b : List A) → AreInTurn Q before (a ++ b) → AreInTurn Q (before ++ a) b

@@ -1,27 +1,18 @@
 -- Of two runs, rewards with the same start, allocations and slashes have the same ideal, and are within the slack of one another.
-use Rattle.std.proofs.Common.{◌≡◌, ◌∙◌, ℕ, ◌+◌, ◌*◌, ◌^◌, ◌<◌, ◌≤◌, List, [], ◌∷◌, ◌++◌, Result, Ok, Err, sym, ap, subst, arith, append-nil, append_assoc}
-use Rattle.std.specs.Prelude.{IfOk}
-use Rattle.std.proofs.Math.Nat.{le_of_mul-le-mul_right, mul-le-mul_right}
-use Rattle.std.proofs.lemmas.List.{append_cancel_left}
+use Rattle.std.proofs.Common.{◌≡◌, ◌∙◌, ℕ, ◌+◌, ◌*◌, ◌^◌, ◌<◌, ◌≤◌, List, [], ◌∷◌, ◌++◌, Result, Ok, Err, sym, ap, subst, arith, append-nil, append_assoc, IfOk}
+use Rattle.std.proofs.{Math.Nat.{le_of_mul-le-mul_right, mul-le-mul_right}, lemmas.List.append_cancel_left}
 use Rattle.base_decimals.specs.Fractions.{Fraction, fraction_of, IsAtMost}
 use Rattle.base_coins.specs.Coins.{amount_of}
 use Rattle.base_shares.specs.Burns.{plus}
 use Rattle.base_roles.specs.Log.{Log, LogEntry}
 use Rattle.base_roles.specs.Log as log
-use Rattle.base_messages.specs.declared.block.Block.{Block}
-use Rattle.base_messages.specs.declared.faults.BlockFault.{BlockFault}
-use Rattle.rule_machine.specs.Machine.{Step, going_on, run_of, step}
-use Rattle.rule_machine.specs.Promises.{Replayed}
-use Rattle.rule_modules.specs.Chain.{State}
-use Rattle.rule_modules.specs.Ideal.{Brackets, Span, ideal_reward, slack_of}
-use Rattle.law_rewards.specs.Withdrawals.{AreFair, IsFairEntry}
-use Rattle.law_rewards.proofs.Acts.{moments_do_not_matter}
-use Rattle.law_rewards.proofs.Finding.{in_turn_at}
-use Rattle.law_rewards.proofs.Paying.{fair_joined}
+use Rattle.base_messages.specs.declared.{block.Block.Block, faults.BlockFault.BlockFault}
+use Rattle.rule_machine.specs.{Machine.{Step, going_on, run_of, step}, Promises.Replayed}
+use Rattle.rule_modules.specs.{Chain.State, Ideal.{Brackets, Span, ideal_reward, slack_of}}
+use Rattle.law_rewards.{specs.Withdrawals.{AreFair, IsFairEntry}, proofs.Acts.moments_do_not_matter}
+use Rattle.law_rewards.proofs.{Finding.in_turn_at, Paying.fair_joined}
 use Rattle.law_runs.specs.Moments.{Agree, AreAlike, HaveOneIdeal, IsFair, LogsFairly, MomentsOfRunsDoNotMatter, RunsLogFairly, Withdrawal}
-use Rattle.law_runs.specs.Runs.{SaysFairly}
-use Rattle.law_runs.specs.RunLaws.{RunSaysFairly}
-use Rattle.law_runs.proofs.Saying.{runs_say_fairly}
+use Rattle.law_runs.{specs.{Runs.SaysFairly, RunLaws.RunSaysFairly}, proofs.Saying.runs_say_fairly}
 
 -- ---- two spans
 

@@ -1,64 +1,43 @@
 -- Each payment of a reward that a block of a run tells goes to the payee of the moment, and each reward that is asked for is told.
-use Rattle.std.proofs.Common.{◌≡◌, ◌∙◌, ℕ, suc, ◌+◌, ◌^◌, ◌<◌, ◌≤◌, inl, inr, Bool, true, false, cond, List, [], ◌∷◌, ◌++◌, length, Result, Ok, Err, refl, sym, ap, subst, arith, append-nil, append_assoc}
-use Rattle.std.specs.Prelude.{All, IfOk, Contains, unwrap_or, ◌⊎◌, ⊤}
-use Rattle.std.proofs.lemmas.List.{append_cancel_left}
+use Rattle.std.proofs.Common.{◌≡◌, ◌∙◌, ℕ, suc, ◌+◌, ◌^◌, ◌<◌, ◌≤◌, inl, inr, Bool, true, false, cond, List, [], ◌∷◌, ◌++◌, length, Result, Ok, Err, refl, sym, ap, subst, arith, append-nil, append_assoc, All, IfOk, Contains, unwrap_or, ◌⊎◌}
+use Rattle.std.{specs.Prelude.⊤, proofs.lemmas.List.append_cancel_left}
 use Rattle.std.proofs.lemmas.List.Elements.{All-append, All-cons, All-contains, All-contains_itself, All-head, All-nil, All-push, All-tail, Contains-append_cases, Contains-append_right}
-use Rattle.base_types.specs.declared.account.Account.{Account as Holder}
+use Rattle.base_types.specs.{declared.{account.{Account.{Account as Holder}}}, Orders.addr_cmp}
 use Rattle.base_types.specs.declared.account.Account.TheVariants as account
 use Rattle.base_types.specs.declared.account.Module.TheVariants as holder
-use Rattle.base_types.specs.Orders.{addr_cmp}
 use Rattle.base_coins.specs.Coins.{Money}
 use Rattle.base_shares.specs.Shares.{value_cut_of}
-use Rattle.base_roles.specs.declared.facts.Fact.{Fact}
+use Rattle.base_roles.specs.declared.{facts.Fact.Fact, params.Ctx.Ctx}
+use Rattle.base_roles.specs.{declared.{refusal.{Refusal.{TheVariants.{FeeUnpaid as Unpaid}}}}, Entries.at}
+use Rattle.base_roles.specs.{Holdings.{is_short, transfer_told}, Log.{Log, LogEntry}}
 use Rattle.base_roles.specs.declared.facts.Fact.TheVariants as fact
-use Rattle.base_roles.specs.declared.params.Ctx.{Ctx}
-use Rattle.base_roles.specs.declared.refusal.Refusal.TheVariants.{FeeUnpaid as Unpaid}
-use Rattle.base_roles.specs.Entries.{at}
-use Rattle.base_roles.specs.Holdings.{is_short, transfer_told}
-use Rattle.base_roles.specs.Log.{Log, LogEntry}
 use Rattle.base_roles.specs.Log as log
-use Rattle.base_messages.specs.declared.block.Block.{Block}
-use Rattle.base_messages.specs.declared.block.Tx.{Tx}
-use Rattle.base_messages.specs.declared.faults.BlockFault.{BlockFault}
-use Rattle.base_messages.specs.declared.faults.BlockFault.TheVariants.{RatioLimit}
-use Rattle.base_messages.specs.declared.message.Msg.{Msg}
+use Rattle.base_messages.specs.declared.{block.{Block.Block, Tx.Tx}, faults.BlockFault.BlockFault}
+use Rattle.base_messages.specs.declared.{faults.BlockFault.TheVariants.RatioLimit, message.Msg.Msg}
+use Rattle.base_messages.specs.declared.report.Outcome.{Outcome, TheVariants.{Accepted, FeeUnpaid, Refused}}
 use Rattle.base_messages.specs.declared.message.Msg.TheVariants as msg
-use Rattle.base_messages.specs.declared.report.Outcome.{Outcome}
-use Rattle.base_messages.specs.declared.report.Outcome.TheVariants.{Accepted, FeeUnpaid, Refused}
-use Rattle.rule_machine.proofs.EndLemmas.{transactions_end_by}
-use Rattle.rule_machine.specs.GenesisState.{chain_started, without_facts}
-use Rattle.rule_machine.specs.Machine.{Step, TxStep, block_checked, step, tx_applied, txs_applied}
-use Rattle.rule_machine.specs.Messages.{effect_of}
+use Rattle.rule_machine.{proofs.EndLemmas.transactions_end_by, specs.GenesisState.{chain_started, without_facts}}
+use Rattle.rule_machine.specs.{Machine.{Step, TxStep, block_checked, step, tx_applied, txs_applied}, Messages.effect_of}
 use Rattle.rule_machine.specs.Promises.{AreCarriedOut, EndsSo, MessageHasCoins, TxHasCoins}
 use Rattle.rule_modules.proofs.GoingLemmas.{if_ok, on_bind, on_lifted, on_next, on_stop}
 use Rattle.rule_modules.specs.Chain.{State, begin_block, end_block, shared_in}
 use Rattle.rule_modules.specs.Distribution.{Shared, payee_of, records_made, started}
-use Rattle.rule_modules.specs.Effects.{fee_paid, set_withdraw_address}
-use Rattle.rule_modules.specs.Laws.{next_block}
-use Rattle.rule_modules.specs.Periods.{without_start}
-use Rattle.rule_modules.specs.Sound.{IsSound}
-use Rattle.rule_modules.specs.Withdrawals.{payee_set}
-use Rattle.law_soundness.proofs.Burns.{total_in}
-use Rattle.law_soundness.proofs.Moves.{fee_fits}
+use Rattle.rule_modules.specs.{Effects.{fee_paid, set_withdraw_address}, Laws.next_block, Periods.without_start}
+use Rattle.rule_modules.specs.{Sound.IsSound, Withdrawals.payee_set}
+use Rattle.law_soundness.proofs.{Burns.total_in, Moves.fee_fits}
 use Rattle.law_soundness.proofs.Points.{MessageLeft, StateFits, StateLeft, at_moment, to_fits}
 use Rattle.law_soundness.proofs.Running.{HaveCoins, StepFits, block_fits}
 use Rattle.law_soundness.proofs.Starting.{IsWellStarted, room, started_well}
 use Rattle.law_soundness.proofs.Steps.{and_also, from_if, on_lifted_then, weaker_if}
 use Rattle.law_soundness.proofs.Transactions.{WholeFits, fits_on, message_fits, tx_fits, whole_without}
 use Rattle.law_soundness.specs.Kept.{InTurn, begun_by}
-use Rattle.law_rewards.proofs.Carried.{IsCarried, IsPlain}
-use Rattle.law_rewards.proofs.Paying.{Pays}
-use Rattle.law_rewards.proofs.Staking.{PaysIn}
-use Rattle.law_rewards.proofs.Together.{messages_keep_reached}
-use Rattle.law_rewards.proofs.Told.{rewards_are_told}
-use Rattle.law_rewards.specs.States.{AreReached}
-use Rattle.law_rewards.specs.WithdrawalLaws.{TellsPayment}
-use Rattle.law_rewards.specs.Withdrawals.{is_payment, paid_by, payments_in, payments_of}
+use Rattle.law_rewards.proofs.{Carried.{IsCarried, IsPlain}, Paying.Pays, Staking.PaysIn}
+use Rattle.law_rewards.{proofs.{Together.messages_keep_reached, Told.rewards_are_told}, specs.States.AreReached}
+use Rattle.law_rewards.specs.{WithdrawalLaws.TellsPayment, Withdrawals.{is_payment, paid_by, payments_in, payments_of}}
 use Rattle.law_runs.specs.Payees.{BlockPaysPayees, IsToldByMessage, IsToPayee, NothingTellsNoReward, PayeesAreOfTheMoment, RunPaysPayees, TellInTurn, TellsItsPart, TxPaysPayees, TxTellsRewards}
 use Rattle.law_runs.proofs.Carrying.{begin_carried, end_carried, message_carried}
 use Rattle.law_runs.proofs.Running.{block_reached, both_if, kept_at, message_kept, sound_at, tx_reached}
-use Rattle.law_runs.proofs.Saying.{HasPaid, begun_paid, end_paid, message_paid}
-use Rattle.law_runs.proofs.Starts.{genesis_is_reached}
+use Rattle.law_runs.proofs.{Saying.{HasPaid, begun_paid, end_paid, message_paid}, Starts.genesis_is_reached}
 
 -- ---- what is logged
 

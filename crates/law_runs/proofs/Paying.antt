@@ -1,8 +1,6 @@
 -- What the blocks of every replay pay, put together.
 use Rattle.law_rewards.proofs.Told.{rewards_are_told}
-use Rattle.law_runs.specs.Paying.{RunsPayFairly}
-use Rattle.law_runs.proofs.Going.{runs_go_fairly}
-use Rattle.law_runs.proofs.Payees.{payees_are_of_the_moment}
+use Rattle.law_runs.{specs.Paying.RunsPayFairly, proofs.{Going.runs_go_fairly, Payees.payees_are_of_the_moment}}
 use Rattle.law_runs.proofs.Reading.{runs_tell_fairly}
 
 pub runs_pay_fairly : RunsPayFairly

@@ -1,16 +1,11 @@
 -- Each payment of a reward that a block of a run tells is that of a fair withdrawal.
-use Rattle.std.proofs.Common.{List, [], ◌∷◌, Result, Ok, Err, ap, sym, subst, ◌∙◌}
-use Rattle.std.specs.Prelude.{IfOk}
-use Rattle.base_messages.specs.declared.block.Block.{Block}
-use Rattle.base_messages.specs.declared.faults.BlockFault.{BlockFault}
+use Rattle.std.proofs.Common.{List, [], ◌∷◌, Result, Ok, Err, ap, sym, subst, ◌∙◌, IfOk}
+use Rattle.base_messages.specs.declared.{block.Block.Block, faults.BlockFault.BlockFault}
 use Rattle.rule_machine.specs.Machine.{Step, step}
 use Rattle.rule_modules.specs.Chain.{State}
-use Rattle.law_rewards.specs.Withdrawals.{payments_in, AreSent}
-use Rattle.law_rewards.proofs.Finding.{payments_are_fairly_told}
-use Rattle.law_runs.specs.Runs.{SaysFairly}
-use Rattle.law_runs.specs.RunLaws.{RunSaysFairly}
-use Rattle.law_runs.specs.Readers.{TellsFairly, RunTellsFairly, RunsTellFairly}
-use Rattle.law_runs.proofs.Saying.{runs_say_fairly}
+use Rattle.law_rewards.{specs.Withdrawals.{payments_in, AreSent}, proofs.Finding.payments_are_fairly_told}
+use Rattle.law_runs.specs.{Runs.SaysFairly, RunLaws.RunSaysFairly}
+use Rattle.law_runs.{specs.Readers.{TellsFairly, RunTellsFairly, RunsTellFairly}, proofs.Saying.runs_say_fairly}
 
 tells : (w : State) (s : Step) → SaysFairly w s → TellsFairly w s
 tells w s k = record {

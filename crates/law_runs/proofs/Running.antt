@@ -1,64 +1,39 @@
 -- Blocks keep accounts reached, and so do runs of them: each step is from a sound state.
-use Rattle.std.proofs.Common.{◌≡◌, ◌∙◌, ℕ, suc, ◌+◌, ◌^◌, ◌<◌, ◌≤◌, false, List, [], ◌∷◌, length, map, Result, Ok, Err, sym, ap, subst, arith}
-use Rattle.std.specs.Prelude.{All, IfOk, Contains, ⊤}
-use Rattle.std.specs.List.{AllByRecursion}
-use Rattle.std.proofs.lemmas.List.Elements.{All-head, All-tail}
+use Rattle.std.proofs.Common.{◌≡◌, ◌∙◌, ℕ, suc, ◌+◌, ◌^◌, ◌<◌, ◌≤◌, false, List, [], ◌∷◌, length, map, Result, Ok, Err, sym, ap, subst, arith, All, IfOk, Contains}
+use Rattle.std.{specs.{Prelude.⊤, List.AllByRecursion}, proofs.lemmas.List.Elements.{All-head, All-tail}}
 use Rattle.base_types.specs.declared.account.Account.{Account}
 use Rattle.base_types.specs.declared.account.Account.TheVariants as account
 use Rattle.base_types.specs.declared.account.Module.TheVariants as holder
-use Rattle.base_coins.specs.Coins.{Money, IsMoney, amount_of}
-use Rattle.base_coins.proofs.Order.{Rises, money_from_rises}
-use Rattle.base_roles.specs.declared.messages.Evidence.{Evidence}
-use Rattle.base_roles.specs.declared.messages.Vote.{Vote}
-use Rattle.base_roles.specs.declared.params.Ctx.{Ctx}
-use Rattle.base_roles.proofs.MomentLemmas.{same_moment}
-use Rattle.base_roles.specs.Holdings.{balance_of, coins_of, is_short}
-use Rattle.base_roles.specs.Flow.{◌>>=◌, ◌>>◌, each}
-use Rattle.base_messages.specs.declared.block.Block.{Block}
-use Rattle.base_messages.specs.declared.block.Tx.{Tx}
-use Rattle.base_messages.specs.declared.faults.BlockFault.{BlockFault}
-use Rattle.base_messages.specs.declared.faults.BlockFault.TheVariants.{RatioLimit}
-use Rattle.base_messages.specs.declared.message.Msg.{Msg}
+use Rattle.base_coins.{specs.Coins.{Money, IsMoney, amount_of}, proofs.Order.{Rises, money_from_rises}}
+use Rattle.base_roles.specs.declared.{messages.{Evidence.Evidence, Vote.Vote}, params.Ctx.Ctx}
+use Rattle.base_roles.specs.{Holdings.{balance_of, coins_of, is_short}, Flow.{◌>>=◌, ◌>>◌, each}}
+use Rattle.base_roles.{specs.declared.refusal.Refusal.Refusal, proofs.MomentLemmas.same_moment}
+use Rattle.base_messages.specs.declared.{block.{Block.Block, Tx.Tx}, faults.BlockFault.BlockFault}
+use Rattle.base_messages.specs.declared.{faults.BlockFault.TheVariants.RatioLimit, message.Msg.Msg}
 use Rattle.base_messages.specs.declared.message.Msg.TheVariants as msg
-use Rattle.base_roles.specs.declared.refusal.Refusal.{Refusal}
-use Rattle.rule_machine.proofs.DueLemmas.{IsDue, is_due}
-use Rattle.rule_machine.proofs.PurseLemmas.{coins-amount, coins-rise}
-use Rattle.rule_machine.specs.Blocks.{block_fault}
-use Rattle.rule_machine.specs.GenesisState.{without_facts}
+use Rattle.rule_machine.proofs.{DueLemmas.{IsDue, is_due}, PurseLemmas.{coins-amount, coins-rise}}
+use Rattle.rule_machine.specs.{Blocks.block_fault, GenesisState.without_facts}
 use Rattle.rule_machine.specs.Machine.{Step, TxSteps, votes_checked, evidence_checked, block_checked, stop_at, step, going_on, run_of, tx_applied, txs_applied, reported_as}
-use Rattle.rule_machine.specs.Messages.{effect_of}
-use Rattle.rule_machine.specs.Promises.{MessageHasCoins, TxHasCoins}
+use Rattle.rule_machine.specs.{Messages.effect_of, Promises.{MessageHasCoins, TxHasCoins}}
 use Rattle.rule_modules.specs.Amounts.{in_units}
 use Rattle.rule_modules.specs.Chain.{State, allocation_step, begin_block, end_block, evidence_step, maturing_step, redelegations_step, set_step, unbondings_step, vote_step}
-use Rattle.rule_modules.specs.Effects.{after_fee, effects_of, fee_paid, stands_or_fee}
-use Rattle.rule_modules.specs.Laws.{next_block}
-use Rattle.rule_modules.specs.Sound.{IsSound}
-use Rattle.rule_modules.specs.Window.{signing_of}
-use Rattle.law_soundness.proofs.Bank.{each_within}
-use Rattle.law_soundness.proofs.Bonding.{set_step_fits}
-use Rattle.law_soundness.proofs.Burns.{total_in}
-use Rattle.law_soundness.proofs.Ending.{unbondings_fit}
-use Rattle.law_soundness.proofs.Entries.{to_pairs}
-use Rattle.law_soundness.proofs.Following.{next_fits}
-use Rattle.law_soundness.proofs.Maturing.{maturing_fits}
-use Rattle.law_soundness.proofs.Moves.{fee_fits}
+use Rattle.rule_modules.specs.{Effects.{after_fee, effects_of, fee_paid, stands_or_fee}, Laws.next_block, Sound.IsSound}
+use Rattle.rule_modules.{specs.Window.signing_of, proofs.GoingLemmas.on_next}
+use Rattle.law_soundness.proofs.{Bank.each_within, Bonding.set_step_fits, Burns.total_in, Ending.unbondings_fit}
+use Rattle.law_soundness.proofs.{Entries.to_pairs, Following.next_fits, Maturing.maturing_fits, Moves.fee_fits}
 use Rattle.law_soundness.proofs.Names.{AreNamed, units_known}
 use Rattle.law_soundness.proofs.Points.{AreAllWhole, MessageLeft, StateFits, StateLeft, WholeEntries, at_moment, from_fits, to_fits}
 use Rattle.law_soundness.proofs.Purses.{enough_held}
 use Rattle.law_soundness.proofs.Running.{AreKnown, AreDistinct, CountBelow, HaveCoins, BegunLeft, AllocatedLeft, StepFits, next_ok, first_ok, votes_are, counts_on, allocated_left, begin_fits, older_whole, block_fits}
 use Rattle.law_soundness.proofs.Steps.{on_lifted_then, on_then}
-use Rattle.rule_modules.proofs.GoingLemmas.{on_next}
 use Rattle.law_soundness.proofs.Transactions.{TxsFit, WholeFits, fits_on, message_fits, tx_fits, txs_fit, whole_without, without_facts_fits}
 use Rattle.law_soundness.proofs.Voting.{EvidenceLeft, VoteLeft, evidence_fits, own_record, vote_fits}
-use Rattle.law_rewards.specs.States.{AreReached}
-use Rattle.law_rewards.specs.StateLaws.{ReachedStays, NoneStartedHere}
+use Rattle.law_rewards.specs.{States.AreReached, StateLaws.{ReachedStays, NoneStartedHere}}
 use Rattle.law_rewards.proofs.Allocating.{none_started_in_next, allocation_keeps_reached}
 use Rattle.law_rewards.proofs.Bonding.{bonded_set_keeps_reached}
 use Rattle.law_rewards.proofs.Delegating.{unbondings_step_keeps_reached, redelegations_step_keeps_reached}
-use Rattle.law_rewards.proofs.Endings.{next_block_keeps_reached}
-use Rattle.law_rewards.proofs.Maturing.{maturing_keeps_reached}
-use Rattle.law_rewards.proofs.Punishing.{votes_keep_reached, evidence_keeps_reached}
-use Rattle.law_rewards.proofs.Together.{messages_keep_reached}
+use Rattle.law_rewards.proofs.{Endings.next_block_keeps_reached, Maturing.maturing_keeps_reached}
+use Rattle.law_rewards.proofs.{Punishing.{votes_keep_reached, evidence_keeps_reached}, Together.messages_keep_reached}
 use Rattle.law_rewards.proofs.Undelegating.{undelegating_keeps_reached}
 use Rattle.law_runs.specs.RunLaws.{RunsKeepReached}
 

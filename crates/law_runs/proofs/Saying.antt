@@ -1,65 +1,43 @@
 -- Each withdrawal that a block logs is fair by the log up to it, and it tells the payments that it logs; and so in runs.
-use Rattle.std.proofs.Common.{◌≡◌, ◌∙◌, ℕ, suc, ◌+◌, ◌^◌, ◌<◌, ◌≤◌, Bool, true, false, List, [], ◌∷◌, ◌++◌, length, map, Result, Ok, Err, refl, sym, ap, subst, arith, append-nil, append_assoc}
-use Rattle.std.specs.Prelude.{All, IfOk, Contains, if◌then◌else◌, ⊤}
-use Rattle.std.proofs.lemmas.List.Elements.{All-head, All-tail}
+use Rattle.std.proofs.Common.{◌≡◌, ◌∙◌, ℕ, suc, ◌+◌, ◌^◌, ◌<◌, ◌≤◌, Bool, true, false, List, [], ◌∷◌, ◌++◌, length, map, Result, Ok, Err, refl, sym, ap, subst, arith, append-nil, append_assoc, All, IfOk, Contains, if◌then◌else◌}
+use Rattle.std.{specs.Prelude.⊤, proofs.lemmas.List.Elements.{All-head, All-tail}}
 use Rattle.base_types.specs.declared.account.Account.{Account as Holder}
 use Rattle.base_types.specs.declared.account.Account.TheVariants as account
 use Rattle.base_types.specs.declared.account.Module.TheVariants as holder
 use Rattle.base_coins.specs.Coins.{Money, fractions}
-use Rattle.base_roles.specs.declared.facts.Fact.{Fact}
-use Rattle.base_roles.specs.declared.facts.Fact.TheVariants as fact
-use Rattle.base_roles.specs.declared.messages.Evidence.{Evidence}
-use Rattle.base_roles.specs.declared.messages.Vote.{Vote}
-use Rattle.base_roles.specs.declared.params.Ctx.{Ctx}
-use Rattle.base_roles.specs.declared.refusal.Refusal.{Refusal}
-use Rattle.base_roles.specs.Holdings.{transfer_told}
-use Rattle.base_roles.specs.Log.{Log}
+use Rattle.base_roles.specs.declared.{facts.Fact.Fact, messages.{Evidence.Evidence, Vote.Vote}, params.Ctx.Ctx}
+use Rattle.base_roles.specs.{declared.refusal.Refusal.Refusal, Holdings.transfer_told, Log.Log}
 use Rattle.base_roles.specs.Flow.{◌>>=◌, ◌>>◌, each}
-use Rattle.base_messages.specs.declared.block.Block.{Block}
-use Rattle.base_messages.specs.declared.block.Tx.{Tx}
-use Rattle.base_messages.specs.declared.faults.BlockFault.{BlockFault}
-use Rattle.base_messages.specs.declared.faults.BlockFault.TheVariants.{RatioLimit}
-use Rattle.base_messages.specs.declared.message.Msg.{Msg}
-use Rattle.base_messages.specs.declared.message.Msg.TheVariants as msg
+use Rattle.base_roles.specs.declared.facts.Fact.TheVariants as fact
+use Rattle.base_messages.specs.declared.{block.{Block.Block, Tx.Tx}, faults.BlockFault.BlockFault}
+use Rattle.base_messages.specs.declared.{faults.BlockFault.TheVariants.RatioLimit, message.Msg.Msg}
 use Rattle.base_messages.specs.declared.report.TxReport.{TxReport}
-use Rattle.rule_machine.proofs.DueLemmas.{IsDue, is_due}
-use Rattle.rule_machine.specs.Blocks.{block_fault}
+use Rattle.base_messages.specs.declared.message.Msg.TheVariants as msg
+use Rattle.rule_machine.{proofs.DueLemmas.{IsDue, is_due}, specs.Blocks.block_fault}
 use Rattle.rule_machine.specs.GenesisState.{chain_started, without_facts}
 use Rattle.rule_machine.specs.Machine.{Step, TxSteps, votes_checked, evidence_checked, block_checked, stop_at, step, tx_applied, txs_applied, reported_as}
-use Rattle.rule_machine.specs.Messages.{effect_of}
-use Rattle.rule_machine.specs.Promises.{MessageHasCoins, TxHasCoins, facts_of}
+use Rattle.rule_machine.specs.{Messages.effect_of, Promises.{MessageHasCoins, TxHasCoins, facts_of}}
 use Rattle.rule_modules.specs.Amounts.{is_empty}
 use Rattle.rule_modules.specs.Chain.{State, allocation_step, begin_block, end_block, evidence_step, maturing_step, redelegations_step, set_step, unbondings_step, vote_step}
-use Rattle.rule_modules.specs.Effects.{after_fee, effects_of, fee_paid, stands_or_fee}
-use Rattle.rule_modules.specs.Laws.{next_block}
-use Rattle.rule_modules.specs.Purses.{pooled_told}
-use Rattle.rule_modules.specs.Sound.{IsSound}
-use Rattle.law_soundness.proofs.Burns.{total_in}
-use Rattle.law_soundness.proofs.Following.{next_fits}
-use Rattle.law_soundness.proofs.Moves.{fee_fits}
+use Rattle.rule_modules.specs.{Effects.{after_fee, effects_of, fee_paid, stands_or_fee}, Laws.next_block}
+use Rattle.rule_modules.{specs.{Purses.pooled_told, Sound.IsSound}, proofs.GoingLemmas.on_next}
+use Rattle.law_soundness.proofs.{Burns.total_in, Following.next_fits, Moves.fee_fits}
 use Rattle.law_soundness.proofs.Points.{MessageLeft, StateFits, StateLeft, at_moment, to_fits}
 use Rattle.law_soundness.proofs.Running.{AreKnown, AreDistinct, CountBelow, HasBegun, HaveCoins, AllocatedLeft, StepFits, next_ok, first_ok, votes_are, counts_on, allocated_left, begun_fits, block_fits}
 use Rattle.law_soundness.proofs.Starting.{IsWellStarted, room, started_well}
 use Rattle.law_soundness.proofs.Steps.{from_if, on_lifted_then, on_then, weaker_if}
-use Rattle.law_soundness.specs.Kept.{begun_by}
-use Rattle.rule_modules.proofs.GoingLemmas.{on_next}
 use Rattle.law_soundness.proofs.Transactions.{WholeFits, fits_on, message_fits, tx_fits, whole_without, without_facts_fits}
 use Rattle.law_soundness.proofs.Voting.{EvidenceLeft, VoteLeft, evidence_fits, own_record, vote_fits}
-use Rattle.law_rewards.specs.States.{AreReached}
-use Rattle.law_rewards.specs.StateLaws.{NoneStartedHere}
+use Rattle.law_soundness.specs.Kept.{begun_by}
+use Rattle.law_rewards.specs.{States.AreReached, StateLaws.NoneStartedHere}
 use Rattle.law_rewards.specs.Withdrawals.{AreFair, payments_in, payments_of, IsSent, AreSent}
-use Rattle.law_rewards.specs.WithdrawalLaws.{PaysFairly, PaysWhereReached}
-use Rattle.law_rewards.proofs.Allocating.{none_started_in_next}
+use Rattle.law_rewards.{specs.WithdrawalLaws.{PaysFairly, PaysWhereReached}, proofs.Allocating.none_started_in_next}
 use Rattle.law_rewards.proofs.Closing.{allocation_pays, maturing_pays, redelegations_pay, set_pays, unbondings_pay}
-use Rattle.law_rewards.proofs.Endings.{next_block_keeps_reached}
-use Rattle.law_rewards.proofs.Hitting.{votes_pay_fairly, evidence_pays_fairly}
+use Rattle.law_rewards.proofs.{Endings.next_block_keeps_reached, Hitting.{votes_pay_fairly, evidence_pays_fairly}}
 use Rattle.law_rewards.proofs.Paying.{Pays, pays_then, pays_nothing, fair_joined, payments_joined, sent_joined}
-use Rattle.law_rewards.proofs.Punishing.{votes_keep_reached, evidence_keeps_reached}
-use Rattle.law_rewards.proofs.Staking.{PaysIn}
-use Rattle.law_rewards.proofs.Telling.{messages_pay_fairly, undelegate_pays}
-use Rattle.law_rewards.proofs.Together.{messages_keep_reached}
-use Rattle.law_runs.specs.Runs.{SaysFairly}
-use Rattle.law_runs.specs.RunLaws.{RunSaysFairly, BlocksSayFairly, RunsSayFairly}
+use Rattle.law_rewards.proofs.{Punishing.{votes_keep_reached, evidence_keeps_reached}, Staking.PaysIn}
+use Rattle.law_rewards.proofs.{Telling.{messages_pay_fairly, undelegate_pays}, Together.messages_keep_reached}
+use Rattle.law_runs.specs.{Runs.SaysFairly, RunLaws.{RunSaysFairly, BlocksSayFairly, RunsSayFairly}}
 use Rattle.law_runs.proofs.Running.{kept_at, both_if, message_kept, sound_at, tx_reached, votes_reached, allocation_reached, begin_reached, same_counts, block_reached}
 use Rattle.law_runs.proofs.Starts.{genesis_is_reached}
 

@@ -1,63 +1,36 @@
 -- What a genesis starts has reached accounts: its validators are new, and its delegations come by the rule of delegating.
-use Rattle.std.proofs.Common.{◌≡◌, ◌∙◌, ℕ, ◌+◌, Bool, true, false, List, [], ◌∷◌, map, filter, Some, None, Option, Result, Ok, Err, refl, sym, ap, subst, arith}
-use Rattle.std.specs.Prelude.{IfOk, Contains, sum, unwrap_or}
-use Rattle.std.specs.Map.{keys_of}
-use Rattle.std.proofs.lemmas.List.Sums.{sum_by-cons}
+use Rattle.std.proofs.Common.{◌≡◌, ◌∙◌, ℕ, ◌+◌, Bool, true, false, List, [], ◌∷◌, map, filter, Some, None, Option, Result, Ok, Err, refl, sym, ap, subst, arith, IfOk, Contains, sum, unwrap_or}
+use Rattle.std.{specs.Map.keys_of, proofs.lemmas.List.Sums.sum_by-cons}
 use Rattle.base_decimals.specs.declared.over.Over.{Over}
-use Rattle.base_types.specs.declared.status.BondStatus.TheVariants.{Unbonded}
-use Rattle.base_types.specs.Orders.{addr_cmp}
-use Rattle.base_coins.specs.Coins.{IsMoney, amount_of}
-use Rattle.base_coins.proofs.Order.{money-nil}
-use Rattle.base_roles.specs.declared.entities.Purse.{Purse}
-use Rattle.base_roles.specs.declared.entities.Validator.{Validator}
-use Rattle.base_roles.specs.declared.params.Ctx.{Ctx}
-use Rattle.base_roles.specs.declared.refusal.Refusal.{Refusal}
-use Rattle.base_roles.specs.declared.refusal.Refusal.TheVariants.{NoValidator, Overflow}
-use Rattle.base_roles.specs.Entries.{at}
-use Rattle.base_roles.specs.Items.{no_purse}
-use Rattle.base_roles.specs.Log as log
-use Rattle.base_roles.specs.Orders.{same_addr}
+use Rattle.base_types.specs.{declared.status.BondStatus.TheVariants.Unbonded, Orders.addr_cmp}
+use Rattle.base_coins.{specs.Coins.{IsMoney, amount_of}, proofs.Order.money-nil}
+use Rattle.base_roles.specs.declared.{entities.{Purse.Purse, Validator.Validator}, params.Ctx.Ctx}
+use Rattle.base_roles.specs.{declared.refusal.Refusal.{Refusal, TheVariants.{NoValidator, Overflow}}, Entries.at}
+use Rattle.base_roles.specs.{Items.no_purse, Orders.same_addr}
 use Rattle.base_roles.specs.Staked.{Staked, validator_at, delegation, put_validator, lists_of}
-use Rattle.base_roles.specs.Flow.{◌>>=◌, stopping, each}
-use Rattle.base_roles.specs.World.{View, World}
-use Rattle.base_messages.specs.declared.genesis.GenesisDelegation.{GenesisDelegation}
-use Rattle.base_messages.specs.declared.genesis.GenesisValidator.{GenesisValidator}
+use Rattle.base_roles.specs.{Flow.{◌>>=◌, stopping, each}, World.{View, World}}
+use Rattle.base_roles.specs.declared.messages.CreateValidator.{CreateValidator}
+use Rattle.base_roles.specs.Log as log
+use Rattle.base_messages.specs.declared.genesis.{GenesisDelegation.GenesisDelegation, GenesisValidator.GenesisValidator}
 use Rattle.rule_machine.specs.GenesisConditions.{accounts_at_start, creation_of, start_condition}
 use Rattle.rule_machine.specs.GenesisState.{Start, delegation_added, empty_over, ground_at_start, stake_added, validator_added, without_facts}
-use Rattle.rule_modules.specs.BondedSet.{set_updated}
-use Rattle.rule_modules.specs.Chain.{Hooks, State, chain_told, staked_in, with_staked}
-use Rattle.rule_modules.specs.Delegating.{delegated, pool}
-use Rattle.rule_modules.specs.Periods.{Periods, initial_records}
-use Rattle.rule_modules.specs.Validators.{new_validator}
+use Rattle.rule_machine.{specs.Genesis.held_at_start, proofs.{EnterLemmas.entering, StartLemmas.start_in_order}}
+use Rattle.rule_modules.specs.{BondedSet.set_updated, Chain.{Hooks, State, chain_told, staked_in, with_staked}}
+use Rattle.rule_modules.specs.{Delegating.{delegated, pool}, Periods.{Periods, initial_records}}
+use Rattle.rule_modules.specs.{Validators.new_validator, Sound.{RedelegationsAreSound, UnbondingsAreSound}}
+use Rattle.rule_modules.proofs.GoingLemmas.{on_found}
 use Rattle.law_rewards.specs.Account.{Account, Start as Begun, IsReached, new_account}
-use Rattle.law_rewards.specs.States.{account_in, AreReached}
-use Rattle.law_rewards.specs.StateLaws.{ReachedStays}
-use Rattle.law_rewards.proofs.Bonding.{bonded_set_keeps_reached}
-use Rattle.law_rewards.proofs.Claims.{IsReady, AreLists}
-use Rattle.law_rewards.proofs.Creating.{state_made, made_other}
-use Rattle.law_rewards.proofs.Endings.{same_account, same_some}
-use Rattle.law_rewards.proofs.Entries.{addr_is, put_there, put_elsewhere, history_behind}
-use Rattle.law_rewards.proofs.Growing.{delegated_reached}
-use Rattle.law_rewards.proofs.Hooked.{opened}
-use Rattle.law_rewards.proofs.Reached.{new_is_reached}
-use Rattle.rule_machine.specs.Genesis.{held_at_start}
-use Rattle.rule_machine.proofs.EnterLemmas.{entering}
-use Rattle.rule_machine.proofs.StartLemmas.{start_in_order}
-use Rattle.base_roles.specs.declared.messages.CreateValidator.{CreateValidator}
-use Rattle.rule_modules.specs.Sound.{RedelegationsAreSound, UnbondingsAreSound}
-use Rattle.law_soundness.proofs.Burns.{total_in}
-use Rattle.law_soundness.proofs.Delegating.{delegated_fits}
-use Rattle.law_soundness.proofs.Lists.{weaker}
-use Rattle.law_soundness.proofs.Names.{IsKnown}
-use Rattle.law_soundness.proofs.Points.{StakeFits, StateFits, from_fits}
-use Rattle.law_soundness.proofs.Purses.{own_purse}
-use Rattle.law_soundness.proofs.Rewards.{own_periods}
+use Rattle.law_rewards.specs.{States.{account_in, AreReached}, StateLaws.ReachedStays}
+use Rattle.law_rewards.proofs.{Bonding.bonded_set_keeps_reached, Claims.{IsReady, AreLists}}
+use Rattle.law_rewards.proofs.{Creating.{state_made, made_other}, Endings.{same_account, same_some}}
+use Rattle.law_rewards.proofs.{Entries.{addr_is, put_there, put_elsewhere, history_behind}, Growing.delegated_reached}
+use Rattle.law_rewards.proofs.{Hooked.opened, Reached.new_is_reached}
+use Rattle.law_soundness.proofs.{Burns.total_in, Delegating.delegated_fits, Lists.weaker, Names.IsKnown}
+use Rattle.law_soundness.proofs.{Points.{StakeFits, StateFits, from_fits}, Purses.own_purse, Rewards.own_periods}
 use Rattle.law_soundness.proofs.Standing.{own_place}
 use Rattle.law_soundness.proofs.Starting.{few_names, held_supplied, no_redelegations, no_unbondings, start_fits, validators_fit}
 use Rattle.law_soundness.proofs.Steps.{if_ok, on_then, weaker_if}
-use Rattle.rule_modules.proofs.GoingLemmas.{on_found}
-use Rattle.law_runs.specs.RunLaws.{GenesisIsReached}
-use Rattle.law_runs.proofs.Running.{both_if}
+use Rattle.law_runs.{specs.RunLaws.GenesisIsReached, proofs.Running.both_if}
 
 -- ---- validators
 

@@ -1,54 +1,33 @@
 -- Blocks of a sound state let no rewards run without a start, and make validators at rest; so in runs, since a genesis starts with none.
-use Rattle.std.proofs.Common.{◌≡◌, ℕ, suc, ◌+◌, ◌^◌, ◌<◌, ◌≤◌, List, [], ◌∷◌, length, map, Result, Ok, Err, refl, ap, arith}
-use Rattle.std.specs.Prelude.{All, IfOk, Contains, ⊤}
-use Rattle.std.specs.Map.{lookup}
-use Rattle.std.specs.BTreeMap.{is_at}
-use Rattle.std.proofs.lemmas.List.Elements.{All-head, All-tail}
+use Rattle.std.proofs.Common.{◌≡◌, ℕ, suc, ◌+◌, ◌^◌, ◌<◌, ◌≤◌, List, [], ◌∷◌, length, map, Result, Ok, Err, refl, ap, arith, All, IfOk, Contains}
+use Rattle.std.{specs.{Prelude.⊤, Map.lookup, BTreeMap.is_at}, proofs.lemmas.List.Elements.{All-head, All-tail}}
 use Rattle.base_types.specs.declared.status.BondStatus.TheVariants.{Unbonded}
-use Rattle.base_roles.specs.declared.entities.Validator.{Validator}
-use Rattle.base_roles.specs.declared.messages.CreateValidator.{CreateValidator}
-use Rattle.base_roles.specs.declared.params.Ctx.{Ctx}
-use Rattle.base_roles.specs.declared.refusal.Refusal.{Refusal}
-use Rattle.base_roles.specs.declared.refusal.Refusal.TheVariants.{NoValidator, Overflow}
-use Rattle.base_roles.specs.Orders.{pair_cmp}
-use Rattle.base_roles.specs.Staked.{Staked, validator_at}
-use Rattle.base_roles.specs.Flow.{each}
-use Rattle.base_roles.specs.World.{World}
-use Rattle.base_messages.specs.declared.block.Block.{Block}
-use Rattle.base_messages.specs.declared.block.Tx.{Tx}
-use Rattle.base_messages.specs.declared.faults.BlockFault.{BlockFault}
+use Rattle.base_roles.specs.declared.{entities.Validator.Validator, messages.CreateValidator.CreateValidator}
+use Rattle.base_roles.specs.declared.{params.Ctx.Ctx, refusal.Refusal.{Refusal, TheVariants.{NoValidator, Overflow}}}
+use Rattle.base_roles.specs.{Orders.pair_cmp, Staked.{Staked, validator_at}, Flow.each, World.World}
+use Rattle.base_messages.specs.declared.{block.{Block.Block, Tx.Tx}, faults.BlockFault.BlockFault}
 use Rattle.base_messages.specs.declared.faults.BlockFault.TheVariants.{RatioLimit}
-use Rattle.base_messages.specs.declared.genesis.GenesisDelegation.{GenesisDelegation}
-use Rattle.base_messages.specs.declared.genesis.GenesisValidator.{GenesisValidator}
+use Rattle.base_messages.specs.declared.genesis.{GenesisDelegation.GenesisDelegation, GenesisValidator.GenesisValidator}
 use Rattle.base_messages.specs.declared.message.Msg.{Msg}
 use Rattle.base_messages.specs.declared.message.Msg.TheVariants as msg
 use Rattle.rule_machine.specs.GenesisConditions.{creation_of}
 use Rattle.rule_machine.specs.GenesisState.{Start, chain_started, delegation_added, empty_over, ground_at_start, stake_added, validator_added, without_facts}
 use Rattle.rule_machine.specs.Machine.{Step, block_checked, step, going_on, run_of, tx_applied, txs_applied, reported_as}
-use Rattle.rule_machine.specs.Messages.{effect_of}
-use Rattle.rule_machine.specs.Promises.{MessageHasCoins, TxHasCoins, Replayed, run_in}
+use Rattle.rule_machine.specs.{Messages.effect_of, Promises.{MessageHasCoins, TxHasCoins, Replayed, run_in}}
 use Rattle.rule_modules.specs.BondedSet.{set_updated}
 use Rattle.rule_modules.specs.Chain.{Hooks, State, chain_told, staked_in, begin_block, end_block}
-use Rattle.rule_modules.specs.Delegating.{delegated, pool}
-use Rattle.rule_modules.specs.Effects.{after_fee, effects_of, fee_paid, stands_or_fee}
-use Rattle.rule_modules.specs.Laws.{next_block}
-use Rattle.rule_modules.specs.Sound.{IsSound}
-use Rattle.rule_modules.specs.Validators.{new_validator}
-use Rattle.law_soundness.proofs.Burns.{total_in}
-use Rattle.law_soundness.proofs.Moves.{fee_fits}
+use Rattle.rule_modules.specs.{Delegating.{delegated, pool}, Effects.{after_fee, effects_of, fee_paid, stands_or_fee}}
+use Rattle.rule_modules.specs.{Laws.next_block, Sound.IsSound, Validators.new_validator}
+use Rattle.rule_modules.proofs.GoingLemmas.{on_bind, on_found, on_next}
+use Rattle.law_soundness.proofs.{Burns.total_in, Moves.fee_fits}
 use Rattle.law_soundness.proofs.Points.{MessageLeft, StateFits, StateLeft, at_moment, to_fits}
 use Rattle.law_soundness.proofs.Running.{HasBegun, HaveCoins, StepFits, begun_fits, block_fits}
-use Rattle.law_soundness.proofs.Starting.{IsWellStarted, room, started_well}
-use Rattle.law_soundness.proofs.Steps.{from_if, on_lifted_then, on_then}
-use Rattle.rule_modules.proofs.GoingLemmas.{on_bind, on_found, on_next}
+use Rattle.law_soundness.proofs.{Starting.{IsWellStarted, room, started_well}, Steps.{from_if, on_lifted_then, on_then}}
 use Rattle.law_soundness.proofs.Transactions.{WholeFits, fits_on, message_fits, tx_fits, whole_without}
-use Rattle.law_rewards.specs.Running.{RunFromStarts, AreStarted}
-use Rattle.law_rewards.proofs.Creating.{state_made}
-use Rattle.law_rewards.proofs.Carried.{delegated_kept}
+use Rattle.law_rewards.{specs.Running.{RunFromStarts, AreStarted}, proofs.{Creating.state_made, Carried.delegated_kept}}
 use Rattle.law_rewards.proofs.CarriedSteps.{fee_carried, each_carried, updated_carried}
 use Rattle.law_rewards.proofs.Unstarted.{starts_carried, payee_started, made_kept}
-use Rattle.law_runs.specs.Going.{GenesisIsStarted}
-use Rattle.law_runs.proofs.Carrying.{message_carried, begin_carried, end_carried}
+use Rattle.law_runs.{specs.Going.GenesisIsStarted, proofs.Carrying.{message_carried, begin_carried, end_carried}}
 use Rattle.law_runs.proofs.Running.{both_if, sound_at}
 
 -- ---- transactions

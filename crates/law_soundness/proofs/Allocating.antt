@@ -1,66 +1,41 @@
 -- Allocating a block's fees keeps a state sound: what moves to the distribution account joins what it owes.
-use Rattle.std.proofs.Common.{◌≡◌, ◌∙◌, ℕ, ◌+◌, ◌*◌, ◌^◌, ◌<◌, ◌≤◌, ◌==◌, Bool, true, false, cond, List, [], ◌∷◌, ◌++◌, map, Option, Some, None, Ok, Err, refl, sym, ap, subst, arith}
-use Rattle.std.specs.Prelude.{◌-◌, nat_le, nat_lt, sum, find, if◌then◌else◌, IfOk, Contains, is_some}
-use Rattle.std.proofs.Math.Nat.{mul-le-mul_right, le_of_mul-le-mul_right}
-use Rattle.std.proofs.lemmas.Bool.Decides.{nat_tests}
-use Rattle.std.proofs.lemmas.List.Elements.{recursion_from_All}
-use Rattle.std.proofs.lemmas.List.Sums.{sum_by-cons}
+use Rattle.std.proofs.Common.{◌≡◌, ◌∙◌, ℕ, ◌+◌, ◌*◌, ◌^◌, ◌<◌, ◌≤◌, ◌==◌, Bool, true, false, cond, List, [], ◌∷◌, ◌++◌, map, Option, Some, None, Ok, Err, refl, sym, ap, subst, arith, ◌-◌, nat_le, nat_lt, sum, find, if◌then◌else◌, IfOk, Contains, is_some, is_eq}
+use Rattle.std.proofs.{Math.Nat.{mul-le-mul_right, le_of_mul-le-mul_right}, lemmas.Bool.Decides.nat_tests}
+use Rattle.std.{proofs.lemmas.List.{Elements.recursion_from_All, Sums.sum_by-cons}, specs.List.AllByRecursion}
+use Rattle.std.specs.Map.{values_of}
 use Rattle.base_types.specs.declared.account.Account.TheVariants as account
 use Rattle.base_types.specs.declared.account.Module.TheVariants as holder
-use Rattle.base_types.specs.Orders.{addr_cmp, cons_cmp}
+use Rattle.base_types.specs.{Orders.{addr_cmp, cons_cmp}, declared.account.Account.Account}
 use Rattle.base_shares.proofs.Roundings.{cut_low}
-use Rattle.base_roles.specs.declared.entities.Purse.{Purse}
-use Rattle.base_roles.specs.declared.entities.Validator.{Validator}
-use Rattle.base_roles.specs.declared.messages.Vote.{Vote}
-use Rattle.base_roles.specs.declared.params.Params.{Params}
-use Rattle.base_roles.specs.Owing.{Lists}
+use Rattle.base_roles.specs.declared.{entities.{Purse.Purse, Validator.Validator}, messages.Vote.Vote}
+use Rattle.base_roles.specs.{declared.params.Params.Params, Owing.Lists, Log.Log, Flow.{◌>>=◌}, World.{View, sent}}
+use Rattle.base_roles.specs.{Entries.at, Holdings.{balance_of, coins_of, is_short}, Items.no_purse}
+use Rattle.base_roles.specs.{Staked.{Staked, lists_of, validator_by_cons, validator_at}, declared.facts.Fact.Fact}
+use Rattle.base_roles.proofs.{AmountLemmas.moves_by_amounts, HoldingLemmas.balance-moved_elsewhere}
 use Rattle.base_roles.specs.declared.facts.Fact.TheVariants as fact
 use Rattle.base_roles.specs.Log as log
-use Rattle.base_roles.specs.Log.{Log}
-use Rattle.base_roles.specs.Flow.{◌>>=◌}
-use Rattle.base_roles.specs.World.{View, sent}
-use Rattle.rule_modules.proofs.PartLemmas.{part_low, share_low, share_within, left_covers}
+use Rattle.rule_modules.proofs.PartLemmas.{part_low, share_low, share_within, left_covers, amount_in_units}
+use Rattle.rule_modules.proofs.{GoingLemmas.on_bind, TotalLemmas.{total_put, total}, OrderLemmas.addr_total}
+use Rattle.rule_modules.proofs.SoundLemmas.{IsSoundAt}
 use Rattle.rule_modules.specs.Allocation.{allocated, fees_allocated, shares_allocated, share_given, sharing}
-use Rattle.std.specs.List.{AllByRecursion}
-use Rattle.std.specs.Map.{values_of}
-use Rattle.std.specs.Ordering.{is_eq}
+use Rattle.rule_modules.specs.{Amounts.{in_units, is_empty}, Chain.{State, allocation_step, staked_in}}
+use Rattle.rule_modules.specs.Distribution.{Shared}
+use Rattle.rule_modules.specs.Purses.{Purses, pool_joined, pooled_told, purse_of, share_joined, with_purse}
 use Rattle.base_coins.proofs.Amounts.{amount-added, amount-all, amount-by}
-use Rattle.base_coins.proofs.Order.{Rises, money_from_rises, rises_from_money}
-use Rattle.base_coins.proofs.Parts.{zero_mul_cut}
+use Rattle.base_coins.proofs.{Order.{Rises, money_from_rises, rises_from_money}, Parts.zero_mul_cut}
 use Rattle.base_coins.specs.Coins.{IsMoney, Money, amount_of, coins_added, coins_mul_cut, coins_mul_even, coins_taken}
-use Rattle.base_decimals.specs.Decimals.{below, digits_36, mul_cut_of, quo_cut_of}
-use Rattle.base_decimals.specs.Rounding.{cut}
+use Rattle.base_decimals.specs.{Decimals.{below, digits_36, mul_cut_of, quo_cut_of}, Rounding.cut}
 use Rattle.base_decimals.specs.declared.over.Over.{Over}
-use Rattle.base_roles.proofs.AmountLemmas.{moves_by_amounts}
-use Rattle.base_roles.proofs.HoldingLemmas.{balance-moved_elsewhere}
-use Rattle.base_roles.specs.Entries.{at}
-use Rattle.base_roles.specs.Holdings.{balance_of, coins_of, is_short}
-use Rattle.base_roles.specs.Items.{no_purse}
-use Rattle.base_roles.specs.Staked.{Staked, lists_of, validator_by_cons, validator_at}
-use Rattle.base_roles.specs.declared.facts.Fact.{Fact}
 use Rattle.rule_machine.proofs.PurseLemmas.{coins-amount, coins-rise}
 use Rattle.law_soundness.proofs.Burns.{total_in, SayNoMore, quiet_behind, quiet_pooled}
-use Rattle.law_soundness.proofs.Bank.{each_within, known_enough}
-use Rattle.law_soundness.proofs.Hooking.{stake_hooks}
-use Rattle.law_soundness.proofs.Lists.{weaker}
-use Rattle.law_soundness.proofs.Maturing.{values_stand}
-use Rattle.law_soundness.proofs.Moves.{HooksFit, Leaves, ground_sent, state_left, ground_told}
+use Rattle.law_soundness.proofs.{Bank.{each_within, known_enough}, Hooking.stake_hooks, Lists.weaker}
+use Rattle.law_soundness.proofs.{Maturing.values_stand, Moves.{HooksFit, Leaves, ground_sent, state_left, ground_told}}
 use Rattle.law_soundness.proofs.Names.{IsKnown, known_added, known_mul_cut, known_mul_even, known_taken, units_known}
-use Rattle.rule_modules.proofs.PartLemmas.{amount_in_units}
 use Rattle.law_soundness.proofs.Periods.{Ordered, pool_after, some_unwrap}
 use Rattle.law_soundness.proofs.Points.{PurseFits, StateFits, StateLeft, from_fits, to_fits}
 use Rattle.law_soundness.proofs.Purses.{HasJoined, PursesFit, enough_held, has_joined, owed_of, own_purse, purse_put, shared_purses}
 use Rattle.law_soundness.proofs.Steps.{and_also, on_then, weaker_if, both_if}
-use Rattle.rule_modules.proofs.GoingLemmas.{on_bind}
-use Rattle.rule_modules.proofs.TotalLemmas.{total_put, total}
 use Rattle.law_soundness.specs.StepLaws.{AllocationKeepsSoundness, IsSoundAfter}
-use Rattle.rule_modules.proofs.OrderLemmas.{addr_total}
-use Rattle.rule_modules.proofs.SoundLemmas.{IsSoundAt}
-use Rattle.rule_modules.specs.Amounts.{in_units, is_empty}
-use Rattle.rule_modules.specs.Chain.{State, allocation_step, staked_in}
-use Rattle.rule_modules.specs.Distribution.{Shared}
-use Rattle.rule_modules.specs.Purses.{Purses, pool_joined, pooled_told, purse_of, share_joined, with_purse}
-use Rattle.base_types.specs.declared.account.Account.{Account}
 
 -- ---- roundings
 

@@ -1,24 +1,17 @@
 -- A block that may follow is answered, and a fault has its cause: a condition against the block, or a limit that its beginning
 -- met. Its end meets none.
-use Rattle.std.proofs.Common.{◌≡◌, ℕ, suc, ◌+◌, ◌^◌, ◌<◌, ◌≤◌, List, [], ◌∷◌, length, Result, Ok, Err, inl, inr, refl, sym, subst, arith}
-use Rattle.std.specs.Prelude.{All, Contains, ⊤}
-use Rattle.std.proofs.lemmas.List.Elements.{All-head, All-tail}
+use Rattle.std.proofs.Common.{◌≡◌, ℕ, suc, ◌+◌, ◌^◌, ◌<◌, ◌≤◌, List, [], ◌∷◌, length, Result, Ok, Err, inl, inr, refl, sym, subst, arith, All, Contains}
+use Rattle.std.{specs.Prelude.⊤, proofs.lemmas.List.Elements.{All-head, All-tail}}
 use Rattle.base_decimals.specs.declared.over.Over.{Over}
 use Rattle.base_roles.specs.Flow.{◌>>=◌, ◌>>◌, stopping}
-use Rattle.base_messages.specs.declared.block.Block.{Block}
-use Rattle.base_messages.specs.declared.faults.BlockFault.{BlockFault}
-use Rattle.base_messages.specs.declared.faults.BlockFault.TheVariants.{RatioLimit}
-use Rattle.rule_machine.specs.GenesisState.{without_facts}
-use Rattle.rule_machine.specs.Machine.{Step, block_checked, step, txs_applied}
+use Rattle.base_messages.specs.declared.{block.Block.Block, faults.BlockFault.{BlockFault, TheVariants.RatioLimit}}
+use Rattle.rule_machine.specs.{GenesisState.without_facts, Machine.{Step, block_checked, step, txs_applied}}
 use Rattle.rule_machine.specs.Promises.{TxHasCoins}
-use Rattle.law_soundness.proofs.Bonding.{set_step_fits}
-use Rattle.law_soundness.proofs.Burns.{total_in}
+use Rattle.law_soundness.proofs.{Bonding.set_step_fits, Burns.total_in}
 use Rattle.law_soundness.proofs.Giving.{Gives, gives_on, maturing_gives, set_step_gives}
 use Rattle.law_soundness.proofs.Points.{StateFits, StateLeft, from_fits, to_fits}
 use Rattle.law_soundness.proofs.Running.{HasBegun, HaveCoins, StepFits, begun_fits, block_fits, done_fits}
-use Rattle.law_soundness.proofs.Starting.{room, started_well}
-use Rattle.law_soundness.proofs.Steps.{from_if}
-use Rattle.law_soundness.proofs.Transactions.{without_facts_fits}
+use Rattle.law_soundness.proofs.{Starting.{room, started_well}, Steps.from_if, Transactions.without_facts_fits}
 use Rattle.law_soundness.specs.Kept.{AnsweredAlong, BlockIsAnswered, RunsAreAnswered, begun_by}
 use Rattle.law_soundness.specs.StepLaws.{BlocksAreAnswered}
 use Rattle.rule_modules.specs.Chain.{State, end_block, maturing_step, redelegations_step, set_step, unbondings_step}

@@ -1,28 +1,19 @@
 -- What is unbonded at one validator leaves all that a hook before a delegation to another reads.
-use Rattle.std.proofs.Common.{◌≡◌, ◌∙◌, ℕ, ◌*◌, ◌^◌, ◌==◌, Bool, true, false, cond, List, [], ◌∷◌, Option, Some, Ok, refl, sym, ap}
-use Rattle.std.specs.Prelude.{◌-◌, ◌&&◌, if◌then◌else◌, IfOk, unwrap_or}
-use Rattle.std.specs.BTreeMap.{is_at}
-use Rattle.std.specs.Map.{lookup, remove_entry}
+use Rattle.std.proofs.Common.{◌≡◌, ◌∙◌, ℕ, ◌*◌, ◌^◌, ◌==◌, Bool, true, false, cond, List, [], ◌∷◌, Option, Some, Ok, refl, sym, ap, ◌-◌, ◌&&◌, if◌then◌else◌, IfOk, unwrap_or}
+use Rattle.std.specs.{BTreeMap.is_at, Map.{lookup, remove_entry}}
 use Rattle.base_types.specs.Orders.{addr_cmp}
 use Rattle.base_decimals.specs.declared.over.Over.{Over}
 use Rattle.base_coins.specs.Coins.{Money, coins_added, coins_quo_cut, coins_taken, fractions, smaller_of}
 use Rattle.base_shares.specs.Shares.{value_cut_of, value_even_of}
-use Rattle.base_roles.specs.declared.entities.Purse.{Purse}
-use Rattle.base_roles.specs.declared.entities.StartingInfo.{StartingInfo}
-use Rattle.base_roles.specs.declared.entities.Validator.{Validator}
-use Rattle.base_roles.specs.declared.facts.Fact.TheVariants as fact
-use Rattle.base_roles.specs.Entries.{at, with, without}
-use Rattle.base_roles.specs.Items.{no_purse}
-use Rattle.base_roles.specs.Orders.{pair_cmp, same_addr}
-use Rattle.base_roles.specs.Staked.{Staked, delegation, is_unbonded}
-use Rattle.base_roles.specs.Flow.{◌>>=◌}
+use Rattle.base_roles.specs.declared.entities.{Purse.Purse, StartingInfo.StartingInfo, Validator.Validator}
+use Rattle.base_roles.specs.{Entries.{at, with, without}, Items.no_purse, Orders.{pair_cmp, same_addr}}
+use Rattle.base_roles.specs.{Staked.{Staked, delegation, is_unbonded}, Flow.{◌>>=◌}}
 use Rattle.base_roles.specs.World.{View, World, call, modified, modifying, noted, over_mine, over_view}
+use Rattle.base_roles.specs.declared.facts.Fact.TheVariants as fact
 use Rattle.base_roles.specs.World as hook
-use Rattle.law_soundness.proofs.Hooking.{called_if, hook_gave, left_if, on_call, unlogged_if}
-use Rattle.law_soundness.proofs.Steps.{on_then}
-use Rattle.rule_modules.proofs.GoingLemmas.{on_bind}
+use Rattle.law_soundness.proofs.{Hooking.{called_if, hook_gave, left_if, on_call, unlogged_if}, Steps.on_then}
 use Rattle.law_soundness.proofs.Unbonding.{less_of, lessened, may_jail, now_of}
-use Rattle.rule_modules.proofs.EntryLemmas.{at-put}
+use Rattle.rule_modules.proofs.{GoingLemmas.on_bind, EntryLemmas.at-put}
 use Rattle.rule_modules.proofs.OrderLemmas.{addr_total, pair_found, pair_total, same_back, same_is}
 use Rattle.rule_modules.specs.Chain.{Hooks, chain_told}
 use Rattle.rule_modules.specs.Distribution.{Shared, current_taken, ended, records_removed, reward_due, reward_withdrawn, started}

@@ -1,19 +1,14 @@
 -- A bank whose denominations have a property, and coins that move in it.
-use Rattle.std.proofs.Common.{◌≡◌, ℕ, ◌+◌, ◌^◌, ◌<◌, ◌≤◌, ◌==◌, Bool, true, false, cond, List, [], ◌∷◌, refl, sym, ap, subst, arith}
-use Rattle.std.specs.Prelude.{◌-◌, unwrap_or, Option, Some, None}
+use Rattle.std.proofs.Common.{◌≡◌, ℕ, ◌+◌, ◌^◌, ◌<◌, ◌≤◌, ◌==◌, Bool, true, false, cond, List, [], ◌∷◌, refl, sym, ap, subst, arith, ◌-◌, unwrap_or, Option, Some, None}
 use Rattle.rule_modules.proofs.OrderLemmas.{equal}
-use Rattle.std.specs.List.{AllByRecursion}
-use Rattle.std.specs.BTreeMap.{is_at}
-use Rattle.std.specs.Map.{lookup}
+use Rattle.std.specs.{List.AllByRecursion, BTreeMap.is_at, Map.lookup}
 use Rattle.base_types.specs.declared.account.Account.{Account}
-use Rattle.base_coins.specs.Coins.{Money, IsMoney}
-use Rattle.base_coins.proofs.Order.{Rises, rises_from_money}
+use Rattle.base_coins.{specs.Coins.{Money, IsMoney}, proofs.Order.{Rises, rises_from_money}}
 use Rattle.base_roles.specs.Entries.{with, without}
 use Rattle.base_roles.specs.Holdings.{Balances, Holdings, balance_of, with_balance, coin_moved, moved, coin_burned, burned, is_short, IsBacked}
 use Rattle.base_roles.specs.Orders.{place_cmp}
 use Rattle.base_roles.proofs.HoldingLemmas.{place_exact, first_enough, rest_enough, balance-most}
-use Rattle.law_soundness.proofs.Lists.{all_taken, all_put, looked_up}
-use Rattle.law_soundness.proofs.Names.{AreNamed, IsKnown}
+use Rattle.law_soundness.proofs.{Lists.{all_taken, all_put, looked_up}, Names.{AreNamed, IsKnown}}
 
 module _ (P : List ℕ → Type 0) where
   -- all denominations of the balances have the property

@@ -1,53 +1,34 @@
 -- The bonded set made anew keeps a state sound: those that join, those that leave, then the difference of their tokens moves.
-use Rattle.std.proofs.Common.{◌≡◌, ◌∙◌, ℕ, ◌+◌, ◌*◌, ◌^◌, ◌<◌, ◌≤◌, Bool, true, false, cond, List, [], ◌∷◌, map, Some, None, Option, refl, sym, ap, subst, arith}
-use Rattle.std.specs.Prelude.{◌-◌, ◌&&◌, not, filter, nat_lt, if◌then◌else◌, IfOk, IsSome, is_some}
-use Rattle.std.specs.BTreeMap.{is_at}
-use Rattle.std.proofs.lemmas.Bool.Decides.{nat_tests}
-use Rattle.std.proofs.lemmas.List.Elements.{All-from_recursion, recursion_from_All}
-use Rattle.std.proofs.lemmas.List.Sums.{sum_by-cons}
-use Rattle.base_types.specs.declared.account.Account.{Account}
-use Rattle.base_types.specs.declared.account.Account.TheVariants as account
-use Rattle.base_types.specs.declared.account.Module.TheVariants as holder
-use Rattle.base_types.specs.declared.status.BondStatus.{BondStatus}
+use Rattle.std.proofs.Common.{◌≡◌, ◌∙◌, ℕ, ◌+◌, ◌*◌, ◌^◌, ◌<◌, ◌≤◌, Bool, true, false, cond, List, [], ◌∷◌, map, Some, None, Option, refl, sym, ap, subst, arith, ◌-◌, ◌&&◌, not, filter, nat_lt, if◌then◌else◌, IfOk, IsSome, is_some}
+use Rattle.std.{specs.{BTreeMap.is_at, List.AllByRecursion, Map.values_of}, proofs.lemmas.Bool.Decides.nat_tests}
+use Rattle.std.proofs.lemmas.List.{Elements.{All-from_recursion, recursion_from_All}, Sums.sum_by-cons}
+use Rattle.base_types.specs.declared.{account.Account.Account, status.BondStatus.BondStatus}
 use Rattle.base_types.specs.declared.status.BondStatus.TheVariants.{Bonded, Unbonding, Unbonded}
 use Rattle.base_types.specs.Orders.{addr_cmp, cons_cmp}
+use Rattle.base_types.specs.declared.account.Account.TheVariants as account
+use Rattle.base_types.specs.declared.account.Module.TheVariants as holder
 use Rattle.base_roles.specs.declared.facts.Fact.TheVariants as fact
-use Rattle.base_roles.specs.declared.entities.Validator.{Validator}
-use Rattle.base_roles.specs.declared.params.Ctx.{Ctx}
-use Rattle.base_roles.specs.Flow.{each}
-use Rattle.base_roles.specs.World.{View, World, sent, over_view}
-use Rattle.law_soundness.proofs.Burns.{SayNoMore, quiet_behind}
-use Rattle.law_soundness.proofs.Delegating.{others}
-use Rattle.rule_modules.specs.BondedSet.{HaveOwnOperators, placed, by_power, joined_set, left_set, set_updated, joining_of, leaving_of, difference_moved, is_in_bonded_set, stands_before, tokens_of}
-use Rattle.std.specs.List.{AllByRecursion}
-use Rattle.std.specs.Map.{values_of}
-use Rattle.base_roles.proofs.HoldingLemmas.{balance-most}
-use Rattle.base_roles.specs.Entries.{at}
-use Rattle.base_roles.specs.Holdings.{IsBacked, balance_of, is_short}
-use Rattle.base_roles.specs.Orders.{pair_cmp, same_addr}
+use Rattle.base_roles.specs.{declared.{entities.Validator.Validator, params.Ctx.Ctx}, Flow.each}
+use Rattle.base_roles.specs.{World.{View, World, sent, over_view}, Entries.at}
+use Rattle.base_roles.specs.{Holdings.{IsBacked, balance_of, is_short}, Orders.{pair_cmp, same_addr}}
 use Rattle.base_roles.specs.Staked.{Staked, bonded_tokens, is_bonded, is_unbonded, lists_of, other_tokens, validator_at}
-use Rattle.base_roles.specs.StakeChanges.{of_bond}
-use Rattle.law_soundness.proofs.Delegating.{bond_money, bond_moved, falls, has_enough, rises_to, same_sum, state_with, others}
+use Rattle.base_roles.{specs.StakeChanges.of_bond, proofs.HoldingLemmas.balance-most}
+use Rattle.law_soundness.proofs.Burns.{SayNoMore, quiet_behind}
+use Rattle.law_soundness.proofs.Delegating.{others, bond_money, bond_moved, falls, has_enough, rises_to, same_sum, state_with}
 use Rattle.law_soundness.proofs.Lists.{all_put, looked_up, weaker}
 use Rattle.law_soundness.proofs.Maturing.{AllStand, operators_are, stand_still, values_stand}
-use Rattle.rule_modules.proofs.OperatorLemmas.{filtered_all, filtered_own, ordered_all, ordered_own, values_own}
-use Rattle.law_soundness.proofs.Moves.{ground_sent, keeps, same_bond, ground_told}
-use Rattle.law_soundness.proofs.Periods.{same_some}
+use Rattle.law_soundness.proofs.{Moves.{ground_sent, keeps, same_bond, ground_told}, Periods.same_some}
 use Rattle.law_soundness.proofs.Points.{GroundFits, IsRecorded, SharedFits, StakeFits, StateFits, StateLeft}
-use Rattle.law_soundness.proofs.Purses.{there_still}
-use Rattle.law_soundness.proofs.Standing.{relisted}
-use Rattle.law_soundness.proofs.Steps.{and_also, on_then, weaker_if}
+use Rattle.law_soundness.proofs.{Purses.there_still, Standing.relisted, Steps.{and_also, on_then, weaker_if}}
 use Rattle.law_soundness.specs.StepLaws.{BondingKeepsSoundness}
+use Rattle.rule_modules.specs.BondedSet.{HaveOwnOperators, placed, by_power, joined_set, left_set, set_updated, joining_of, leaving_of, difference_moved, is_in_bonded_set, stands_before, tokens_of}
+use Rattle.rule_modules.specs.{Amounts.bond_coins, Chain.{Hooks, State, chain_told, set_step, staked_in}}
+use Rattle.rule_modules.specs.{Owed.{entry_balances, owed_from_distribution}, Sound.{SigningIsSound, WindowIsSound}}
+use Rattle.rule_modules.specs.{Unbondings.completion, Window.{Signing, Window, begun_at, signing_of, signing_started}}
+use Rattle.rule_modules.proofs.OperatorLemmas.{filtered_all, filtered_own, ordered_all, ordered_own, values_own}
 use Rattle.rule_modules.proofs.EntryLemmas.{ascend-put, at-put}
 use Rattle.rule_modules.proofs.OrderLemmas.{cons_total, same_back, same_is, same_itself}
-use Rattle.rule_modules.proofs.SoundLemmas.{IsSoundAt, exact_addr, found-put, sound-put}
-use Rattle.rule_modules.proofs.TokenLemmas.{tokens-put}
-use Rattle.rule_modules.specs.Amounts.{bond_coins}
-use Rattle.rule_modules.specs.Chain.{Hooks, State, chain_told, set_step, staked_in}
-use Rattle.rule_modules.specs.Owed.{entry_balances, owed_from_distribution}
-use Rattle.rule_modules.specs.Sound.{SigningIsSound, WindowIsSound}
-use Rattle.rule_modules.specs.Unbondings.{completion}
-use Rattle.rule_modules.specs.Window.{Signing, Window, begun_at, signing_of, signing_started}
+use Rattle.rule_modules.proofs.{SoundLemmas.{IsSoundAt, exact_addr, found-put, sound-put}, TokenLemmas.tokens-put}
 
 -- ---- signing records
 

@@ -1,23 +1,16 @@
 -- What is there and what facts say was burned: together they stay, whether coins move, burn or something is told.
-use Rattle.std.proofs.Common.{◌≡◌, ◌∙◌, ℕ, ◌+◌, ◌≤◌, ◌==◌, Bool, true, false, cond, List, [], ◌∷◌, ◌++◌, Some, None, refl, sym, ap, arith}
-use Rattle.std.specs.Prelude.{if◌then◌else◌, unwrap_or}
-use Rattle.std.specs.BTreeMap.{is_at}
-use Rattle.std.proofs.lemmas.Bool.Decides.{nat_tests}
+use Rattle.std.proofs.Common.{◌≡◌, ◌∙◌, ℕ, ◌+◌, ◌≤◌, ◌==◌, Bool, true, false, cond, List, [], ◌∷◌, ◌++◌, Some, None, refl, sym, ap, arith, if◌then◌else◌, unwrap_or}
+use Rattle.std.{specs.BTreeMap.is_at, proofs.lemmas.Bool.Decides.nat_tests}
 use Rattle.std.proofs.lemmas.List.Sums.{sum_by-append, sum_by_push, sum-map}
-use Rattle.base_types.specs.declared.account.Account.{Account}
+use Rattle.base_types.specs.{declared.account.{Account.Account, Module.Module}, Orders.denom_cmp}
 use Rattle.base_types.specs.declared.account.Account.TheVariants as account
-use Rattle.base_types.specs.declared.account.Module.{Module}
-use Rattle.base_types.specs.Orders.{denom_cmp}
 use Rattle.base_coins.specs.Coins.{Money, amount_of}
 use Rattle.base_roles.specs.declared.facts.Fact.{Fact}
-use Rattle.base_roles.specs.declared.facts.Fact.TheVariants as fact
 use Rattle.base_roles.specs.Holdings.{balance_of, supply_of, moved, burned, transfer_told, burn_told, IsBacked}
-use Rattle.base_roles.specs.World.{View, sent, burnt}
-use Rattle.base_roles.proofs.BurnLemmas.{burns_lower_supplies}
+use Rattle.base_roles.{specs.World.{View, sent, burnt}, proofs.BurnLemmas.burns_lower_supplies}
 use Rattle.base_roles.proofs.HoldingLemmas.{supplies-moved}
-use Rattle.rule_modules.specs.Amounts.{is_empty}
-use Rattle.rule_modules.specs.Laws.{burned_in, burned_in_fact}
-use Rattle.rule_modules.specs.Purses.{pooled_told}
+use Rattle.base_roles.specs.declared.facts.Fact.TheVariants as fact
+use Rattle.rule_modules.specs.{Amounts.is_empty, Laws.{burned_in, burned_in_fact}, Purses.pooled_told}
 
 -- how much there is of a denomination, with what the facts say was burned of it
 abbrev pub total_in : View → List ℕ → ℕ

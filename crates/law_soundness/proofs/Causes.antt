@@ -1,20 +1,13 @@
 -- Each limit that a block's beginning meets has its cause: the allocation, or the slash of a vote or of a piece of evidence.
-use Rattle.std.proofs.Common.{◌≡◌, ◌∙◌, List, [], ◌∷◌, Result, Ok, Err, inl, inr, refl, ap}
-use Rattle.std.specs.Prelude.{◌-◌, ◌⊎◌}
+use Rattle.std.proofs.Common.{◌≡◌, ◌∙◌, List, [], ◌∷◌, Result, Ok, Err, inl, inr, refl, ap, ◌-◌, ◌⊎◌}
 use Rattle.base_decimals.specs.declared.over.Over.{Over}
-use Rattle.base_roles.specs.declared.messages.Evidence.{Evidence}
-use Rattle.base_roles.specs.declared.messages.Vote.{Vote}
-use Rattle.base_roles.specs.Flow.{◌>>=◌, each}
+use Rattle.base_roles.specs.{declared.messages.{Evidence.Evidence, Vote.Vote}, Flow.{◌>>=◌, each}}
 use Rattle.rule_machine.specs.GenesisState.{without_facts}
 use Rattle.law_soundness.specs.Causes.{LimitCause, LimitsHaveCauses, MeetsLimit, SlashLimit}
 use Rattle.rule_modules.specs.Chain.{State, allocation_step, beside_window, evidence_step, vote_step, with_window}
-use Rattle.rule_modules.specs.Distribution.{distribution_told}
-use Rattle.rule_modules.specs.Evidence.{window_bans, equivocation_handled}
-use Rattle.rule_modules.specs.Laws.{next_block}
-use Rattle.rule_modules.specs.Slashing.{core_slashes, plain_slash}
-use Rattle.rule_modules.specs.Window.{voted}
-use Rattle.rule_modules.proofs.GoingLemmas.{mapped_stops}
-use Rattle.rule_modules.proofs.SlashParts.{evidence_stops, vote_stops}
+use Rattle.rule_modules.specs.{Distribution.distribution_told, Evidence.{window_bans, equivocation_handled}}
+use Rattle.rule_modules.specs.{Laws.next_block, Slashing.{core_slashes, plain_slash}, Window.voted}
+use Rattle.rule_modules.proofs.{GoingLemmas.mapped_stops, SlashParts.{evidence_stops, vote_stops}}
 
 -- an answer of steps one after the other is that of the first that stops
 then_stops : {A B : Type 0} (r : Result A Over) (f : A → Result B Over) (over : Over) → (r >>= f) ≡ Err over → (r ≡ Err over) ⊎ ((a : A) × (r ≡ Ok a) × (f a ≡ Err over))

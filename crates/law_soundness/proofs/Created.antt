@@ -1,46 +1,30 @@
 -- Creating a validator is refused by the first of its conditions that holds: its first period has nothing to share out, so no
 -- hook is over.
-use Rattle.std.proofs.Common.{◌≡◌, ◌∙◌, ℕ, ◌+◌, ◌*◌, ◌^◌, ◌<◌, ◌≤◌, ◌==◌, Bool, true, false, List, [], ◌∷◌, Option, Some, None, Result, Ok, Err, refl, sym, ap, subst, arith}
-use Rattle.std.specs.Prelude.{Contains, IsOkAnd, if◌then◌else◌, is_none, is_some, nat_lt, not, unwrap_or, ⊤}
-use Rattle.std.proofs.lemmas.Bool.Decides.{nat_tests}
-use Rattle.base_decimals.specs.declared.over.Over.{Over}
-use Rattle.base_decimals.specs.Decimals.{add_of, quotient_over, whole_of}
+use Rattle.std.proofs.Common.{◌≡◌, ◌∙◌, ℕ, ◌+◌, ◌*◌, ◌^◌, ◌<◌, ◌≤◌, ◌==◌, Bool, true, false, List, [], ◌∷◌, Option, Some, None, Result, Ok, Err, refl, sym, ap, subst, arith, Contains, IsOkAnd, if◌then◌else◌, is_none, is_some, nat_lt, not, unwrap_or}
+use Rattle.std.{specs.Prelude.⊤, proofs.lemmas.Bool.Decides.nat_tests}
+use Rattle.base_decimals.specs.{declared.over.Over.Over, Decimals.{add_of, quotient_over, whole_of}}
 use Rattle.base_types.specs.declared.account.Account.TheVariants as account
-use Rattle.base_coins.proofs.Amounts.{add_fits}
-use Rattle.base_coins.proofs.Parts.{whole_below}
-use Rattle.base_coins.specs.Coins.{Money, coin_then, coins_quo_cut}
+use Rattle.base_coins.{proofs.{Amounts.add_fits, Parts.whole_below}, specs.Coins.{Money, coin_then, coins_quo_cut}}
 use Rattle.base_shares.specs.Shares.{or_over}
-use Rattle.base_roles.specs.declared.entities.Validator.{Validator}
-use Rattle.base_roles.specs.declared.refusal.Refusal.{Refusal}
+use Rattle.base_roles.specs.declared.{entities.Validator.Validator, refusal.Refusal.Refusal}
 use Rattle.base_roles.specs.declared.refusal.Refusal.TheVariants.{CommissionBelowMinimum, CommissionRange, ConsKeyExists, InsufficientFunds, MinSelfNotPositive, NonPositive, Overflow, SelfBelowMinimum, TinyDelegation, ValidatorExists, WrongDenom}
-use Rattle.base_roles.specs.Holdings.{is_short}
-use Rattle.base_roles.specs.Items.{no_purse}
-use Rattle.base_roles.specs.Log.{Log}
-use Rattle.base_roles.specs.Log as log
-use Rattle.base_roles.specs.Pair.{and_then, given_with}
+use Rattle.base_roles.specs.{Holdings.is_short, Items.no_purse, Log.Log, Pair.{and_then, given_with}}
 use Rattle.base_roles.specs.Staked.{Staked, delegation, put_validator, validator_at, validator_by_cons}
 use Rattle.base_roles.specs.Flow.{◌>>=◌, ◌>>◌, stop_if, stopping}
-use Rattle.base_roles.specs.World.{View, World, call, hooked, over_mine, starting}
-use Rattle.base_roles.specs.declared.entities.Purse.{Purse}
-use Rattle.law_soundness.proofs.Rewards.{put_found}
-use Rattle.law_soundness.proofs.Burns.{total_in}
-use Rattle.law_soundness.proofs.Creating.{none_started, none_is}
-use Rattle.law_soundness.proofs.Founding.{period_sure, pooled_at, sure_then}
-use Rattle.law_soundness.proofs.Hooking.{hook_gave}
-use Rattle.law_soundness.proofs.Points.{StateFits, to_fits}
-use Rattle.law_soundness.proofs.Refused.{wallet_refused, stop_known}
+use Rattle.base_roles.specs.{World.{View, World, call, hooked, over_mine, starting}, declared.entities.Purse.Purse}
+use Rattle.base_roles.specs.Log as log
+use Rattle.law_soundness.proofs.{Rewards.put_found, Burns.total_in, Creating.{none_started, none_is}}
+use Rattle.law_soundness.proofs.{Founding.{period_sure, pooled_at, sure_then}, Hooking.hook_gave}
+use Rattle.law_soundness.proofs.{Points.{StateFits, to_fits}, Refused.{wallet_refused, stop_known}}
 use Rattle.law_soundness.specs.StepLaws.{CreationsNameConditions}
-use Rattle.rule_modules.proofs.RefusalLemmas.{mapped, stop_step}
-use Rattle.rule_modules.specs.Amounts.{bond_coins}
+use Rattle.rule_modules.{proofs.RefusalLemmas.{mapped, stop_step}, specs.Amounts.bond_coins}
 use Rattle.rule_modules.specs.Chain.{Hooks, State, chain_told, staked_in, with_staked}
 use Rattle.rule_modules.specs.Conditions.{after_hook, first_of, is_nothing, is_short_then, issue_over, over_in, when}
 use Rattle.rule_modules.specs.Delegating.{delegated, hook_before, is_wrong, wallet}
 use Rattle.rule_modules.specs.Distribution.{Shared, current_taken, ended, left_by, records_made, told_of}
 use Rattle.rule_modules.specs.Periods.{Periods, initial_records, period_ended, periods_of}
-use Rattle.rule_modules.specs.Purses.{Purses, current_emptied, current_pooled, purse_of}
-use Rattle.rule_modules.specs.RefusalOrder.{refused_in}
-use Rattle.rule_modules.specs.Validators.{are_out_of_range, created, new_validator, stored}
-use Rattle.rule_modules.specs.Window.{window_told}
+use Rattle.rule_modules.specs.{Purses.{Purses, current_emptied, current_pooled, purse_of}, RefusalOrder.refused_in}
+use Rattle.rule_modules.specs.{Validators.{are_out_of_range, created, new_validator, stored}, Window.window_told}
 
 -- ---- the first period
 

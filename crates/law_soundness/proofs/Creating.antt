@@ -1,54 +1,33 @@
 -- Creating a validator keeps a state sound.
-use Rattle.std.proofs.Common.{◌≡◌, ◌∙◌, ℕ, ◌+◌, ◌≤◌, ◌==◌, Bool, true, false, cond, List, [], ◌∷◌, Some, None, Option, Result, Ok, refl, sym, ap, arith, ◌++◌}
-use Rattle.std.specs.Prelude.{if◌then◌else◌, IfOk, is_some, nat_lt, nat_le}
-use Rattle.std.proofs.lemmas.List.Elements.{recursion_from_All}
-use Rattle.base_types.specs.declared.status.BondStatus.{BondStatus}
-use Rattle.base_types.specs.Orders.{addr_cmp}
-use Rattle.base_roles.specs.declared.entities.Purse.{Purse}
-use Rattle.base_roles.specs.declared.entities.StartingInfo.{StartingInfo}
-use Rattle.base_roles.specs.declared.entities.Validator.{Validator}
+use Rattle.std.proofs.Common.{◌≡◌, ◌∙◌, ℕ, ◌+◌, ◌≤◌, ◌==◌, Bool, true, false, cond, List, [], ◌∷◌, Some, None, Option, Result, Ok, refl, sym, ap, arith, ◌++◌, if◌then◌else◌, IfOk, is_some, nat_lt, nat_le}
+use Rattle.std.{proofs.lemmas.List.Elements.recursion_from_All, specs.List.{AllByRecursion, Sorted.IsStrictlySortedBy}}
+use Rattle.std.specs.Map.{keys_of}
+use Rattle.base_types.specs.{declared.status.BondStatus.BondStatus, Orders.addr_cmp}
+use Rattle.base_roles.specs.declared.entities.{Purse.Purse, StartingInfo.StartingInfo, Validator.Validator}
 use Rattle.base_roles.specs.declared.messages.CreateValidator.{CreateValidator}
 use Rattle.base_roles.specs.declared.refusal.Refusal.TheVariants.{WrongDenom, NonPositive, ValidatorExists, ConsKeyExists, CommissionRange, CommissionBelowMinimum, MinSelfNotPositive, SelfBelowMinimum, Overflow}
-use Rattle.base_roles.specs.Hooks.{with_operator}
-use Rattle.base_roles.specs.Owing.{Lists}
-use Rattle.base_roles.specs.Flow.{◌>>=◌, stopping}
-use Rattle.base_roles.specs.World.{View, World, over_mine}
-use Rattle.base_roles.specs.World as hook
-use Rattle.rule_modules.specs.Delegating.{wallet, delegated, is_wrong}
-use Rattle.std.specs.List.{AllByRecursion}
-use Rattle.std.specs.List.Sorted.{IsStrictlySortedBy}
-use Rattle.std.specs.Map.{keys_of}
-use Rattle.base_coins.specs.Coins.{amount_of, Money}
-use Rattle.base_decimals.specs.declared.over.Over.{Over}
-use Rattle.base_roles.specs.Entries.{at, with}
-use Rattle.base_roles.specs.Items.{no_purse}
-use Rattle.base_roles.specs.Orders.{pair_cmp, same_addr}
+use Rattle.base_roles.specs.{Hooks.with_operator, Owing.Lists, Flow.{◌>>=◌, stopping}, World.{View, World, over_mine}}
+use Rattle.base_roles.specs.{Entries.{at, with}, Items.no_purse, Orders.{pair_cmp, same_addr}}
 use Rattle.base_roles.specs.Staked.{Staked, is_bonded, is_unbonded, lists_of, delegation, tokens_where, validator_by_cons, validator_at, put_validator}
 use Rattle.base_roles.specs.StakeChanges.{of_bond}
-use Rattle.rule_machine.proofs.StakesLemmas.{new_is_sound, nobody_has}
-use Rattle.law_soundness.proofs.Delegating.{delegated_fits, state_with}
-use Rattle.law_soundness.proofs.Hooking.{hook_gave, on_hook, stake_hooks}
-use Rattle.law_soundness.proofs.Lists.{all_put, both_all, weaker}
-use Rattle.law_soundness.proofs.Moves.{HooksFit, Leaves, keeps, stake_left}
-use Rattle.law_soundness.proofs.Names.{known_none}
-use Rattle.law_soundness.proofs.Periods.{stands_first}
-use Rattle.law_soundness.proofs.Points.{IsRecorded, PeriodsFit, PurseFits, StakeFits, StartFits, StateFits, StateLeft}
-use Rattle.law_soundness.proofs.Standing.{stake_relisted}
-use Rattle.law_soundness.proofs.Steps.{and_also, on_then}
-use Rattle.rule_modules.proofs.GoingLemmas.{on_stop}
-use Rattle.rule_modules.proofs.TotalLemmas.{total_joined}
-use Rattle.law_soundness.specs.StepLaws.{CreatingKeepsSoundness}
-use Rattle.rule_modules.proofs.EntryLemmas.{ascend-put, at-put, to_all}
+use Rattle.base_roles.specs.World as hook
+use Rattle.rule_modules.specs.{Delegating.{wallet, delegated, is_wrong}, Chain.{Hooks, State, chain_told, staked_in}}
+use Rattle.rule_modules.specs.{Distribution.{Shared, records_made}, Effects.create_validator, Owed.entry_balances}
+use Rattle.rule_modules.specs.{Periods.{Periods, Rewards, initial_records, ratio_at, start_of}, Sound.ValidatorIsSound}
+use Rattle.rule_modules.specs.Validators.{are_out_of_range, new_validator, stored, created}
+use Rattle.rule_modules.proofs.{GoingLemmas.on_stop, TotalLemmas.total_joined, EntryLemmas.{ascend-put, at-put, to_all}}
 use Rattle.rule_modules.proofs.OrderLemmas.{addr_total, pair_total, same_back, same_is}
 use Rattle.rule_modules.proofs.SoundLemmas.{IsSoundAt, exact_addr, found_itself, sound-joined}
 use Rattle.rule_modules.proofs.TokenLemmas.{tokens-joined}
-use Rattle.rule_modules.specs.Chain.{Hooks, State, chain_told, staked_in}
-use Rattle.rule_modules.specs.Distribution.{Shared, records_made}
-use Rattle.rule_modules.specs.Effects.{create_validator}
-use Rattle.rule_modules.specs.Owed.{entry_balances}
-use Rattle.rule_modules.specs.Periods.{Periods, Rewards, initial_records, ratio_at, start_of}
-use Rattle.rule_modules.specs.Sound.{ValidatorIsSound}
-use Rattle.rule_modules.specs.Validators.{are_out_of_range, new_validator, stored, created}
+use Rattle.base_coins.specs.Coins.{amount_of, Money}
+use Rattle.base_decimals.specs.declared.over.Over.{Over}
+use Rattle.rule_machine.proofs.StakesLemmas.{new_is_sound, nobody_has}
+use Rattle.law_soundness.proofs.{Delegating.{delegated_fits, state_with}, Hooking.{hook_gave, on_hook, stake_hooks}}
+use Rattle.law_soundness.proofs.{Lists.{all_put, both_all, weaker}, Moves.{HooksFit, Leaves, keeps, stake_left}}
+use Rattle.law_soundness.proofs.{Names.known_none, Periods.stands_first}
+use Rattle.law_soundness.proofs.Points.{IsRecorded, PeriodsFit, PurseFits, StakeFits, StartFits, StateFits, StateLeft}
+use Rattle.law_soundness.proofs.{Standing.stake_relisted, Steps.{and_also, on_then}}
+use Rattle.law_soundness.specs.StepLaws.{CreatingKeepsSoundness}
 
 pub none_is : {X : Type 0} (r : Option X) → is_some r ≡ false → r ≡ None
 none_is None e = refl

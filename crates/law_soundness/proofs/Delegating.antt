@@ -1,56 +1,35 @@
 -- Delegating, from a wallet or from a staking account, keeps what fits.
-use Rattle.std.proofs.Common.{◌≡◌, ◌∙◌, ℕ, ◌+◌, ◌*◌, ◌^◌, ◌<◌, ◌≤◌, ◌==◌, Bool, true, false, cond, List, [], ◌∷◌, Some, Ok, refl, sym, ap, subst, arith, ◌++◌}
-use Rattle.std.specs.Prelude.{◌&&◌, if◌then◌else◌, IfOk, is_some, unwrap_or}
-use Rattle.std.specs.BTreeMap.{is_at}
-use Rattle.std.proofs.lemmas.Bool.Decides.{nat_tests}
-use Rattle.base_types.specs.declared.account.Account.{Account}
+use Rattle.std.proofs.Common.{◌≡◌, ◌∙◌, ℕ, ◌+◌, ◌*◌, ◌^◌, ◌<◌, ◌≤◌, ◌==◌, Bool, true, false, cond, List, [], ◌∷◌, Some, Ok, refl, sym, ap, subst, arith, ◌++◌, ◌&&◌, if◌then◌else◌, IfOk, is_some, unwrap_or}
+use Rattle.std.{specs.{BTreeMap.is_at, List.AllByRecursion}, proofs.lemmas.Bool.Decides.nat_tests}
+use Rattle.base_types.specs.{declared.{account.Account.Account, status.BondStatus.BondStatus}, Modules.module_number}
+use Rattle.base_types.specs.Orders.{addr_cmp, account_cmp, denom_cmp}
 use Rattle.base_types.specs.declared.account.Account.TheVariants as account
 use Rattle.base_types.specs.declared.account.Module.TheVariants as holder
-use Rattle.base_types.specs.declared.status.BondStatus.{BondStatus}
-use Rattle.base_types.specs.Modules.{module_number}
-use Rattle.base_types.specs.Orders.{addr_cmp, account_cmp, denom_cmp}
-use Rattle.base_coins.specs.Coins.{IsMoney, amount_of, coin_then}
-use Rattle.base_roles.specs.declared.entities.Validator.{Validator}
-use Rattle.base_roles.specs.declared.refusal.Refusal.{Refusal}
+use Rattle.base_coins.specs.{Coins.{IsMoney, amount_of, coin_then}, declared.coin.Coin.Coin}
+use Rattle.base_roles.specs.declared.{entities.Validator.Validator, refusal.Refusal.Refusal}
 use Rattle.base_roles.specs.declared.refusal.Refusal.TheVariants.{InsufficientFunds, NonPositive, NoValidator, TinyDelegation, WrongDenom, Overflow}
-use Rattle.base_roles.specs.Holdings.{Holdings, balance_of, moved, is_short, IsBacked}
-use Rattle.base_roles.specs.Flow.{stopping}
-use Rattle.base_roles.specs.World.{View, World, sent, over_view, over_mine, modified}
-use Rattle.rule_modules.specs.Delegating.{Origin, wallet, pool, shares_given, paid_in, hook_before, delegated, delegated_by, is_wrong}
-use Rattle.base_coins.specs.declared.coin.Coin.{Coin}
-use Rattle.base_decimals.specs.Decimals.{add_of}
-use Rattle.base_roles.proofs.AmountLemmas.{moves_by_amounts}
-use Rattle.base_roles.proofs.HoldingLemmas.{balance-most, first_enough}
-use Rattle.base_roles.specs.Hooks.{with_started}
-use Rattle.base_roles.specs.Owing.{Lists}
+use Rattle.base_roles.specs.{Holdings.{Holdings, balance_of, moved, is_short, IsBacked}, Flow.stopping}
+use Rattle.base_roles.specs.{World.{View, World, sent, over_view, over_mine, modified}, Hooks.with_started, Owing.Lists}
 use Rattle.base_roles.specs.Orders.{pair_cmp, same_addr}
 use Rattle.base_roles.specs.Staked.{Staked, bonded_tokens, is_bonded, lists_of, other_tokens, delegation, validator_at, put_validator}
-use Rattle.base_roles.specs.StakeChanges.{of_bond}
-use Rattle.base_roles.specs.declared.params.Ctx.{Ctx}
-use Rattle.rule_machine.proofs.PointLemmas.{sound-more}
-use Rattle.rule_machine.proofs.PurseLemmas.{one-amount, one-money, one-rises}
-use Rattle.law_soundness.proofs.Hooking.{before_is_idle, before_told, hook_gave, lists_before, on_hook, stake_hooks}
-use Rattle.law_soundness.proofs.Lists.{all_put, looked_up}
-use Rattle.law_soundness.proofs.Moves.{Leaves, ground_sent, keeps, stake_left}
-use Rattle.law_soundness.proofs.Points.{IsRecorded, StakeFits, StateFits, StateLeft, WholeEntries}
-use Rattle.law_soundness.proofs.Purses.{enough_held, there_still}
-use Rattle.law_soundness.proofs.Rewards.{pair_at, start_leaves}
-use Rattle.law_soundness.proofs.Standing.{own_place, stake_relisted}
-use Rattle.law_soundness.proofs.Steps.{on_then, weaker_if, and_also}
-use Rattle.rule_modules.proofs.GoingLemmas.{on_found, on_lifted, on_next, on_stop}
-use Rattle.law_soundness.specs.StepLaws.{DelegatingKeepsSoundness}
-use Rattle.rule_modules.proofs.EntryLemmas.{at-put}
-use Rattle.rule_modules.proofs.OrderLemmas.{pair_total, same_back, same_itself}
-use Rattle.rule_modules.proofs.SoundLemmas.{exact_addr}
-use Rattle.rule_modules.proofs.TokenLemmas.{tokens-put, tokens-within}
-use Rattle.rule_modules.specs.Amounts.{bond_coins}
-use Rattle.rule_modules.specs.Chain.{Hooks, State, chain_told, staked_in, with_staked}
-use Rattle.rule_modules.specs.Effects.{delegate}
-use Rattle.rule_modules.specs.Owed.{entry_balances}
-use Rattle.rule_modules.specs.Sound.{RedelegationsAreSound, UnbondingsAreSound}
+use Rattle.base_roles.{specs.{StakeChanges.of_bond, declared.params.Ctx.Ctx}, proofs.AmountLemmas.moves_by_amounts}
+use Rattle.base_roles.proofs.HoldingLemmas.{balance-most, first_enough}
+use Rattle.rule_modules.specs.Delegating.{Origin, wallet, pool, shares_given, paid_in, hook_before, delegated, delegated_by, is_wrong}
+use Rattle.rule_modules.specs.{Amounts.bond_coins, Chain.{Hooks, State, chain_told, staked_in, with_staked}}
+use Rattle.rule_modules.specs.{Effects.delegate, Owed.entry_balances, Sound.{RedelegationsAreSound, UnbondingsAreSound}}
 use Rattle.rule_modules.specs.Stakes.{refusal_of_shares, put_delegation}
+use Rattle.rule_modules.proofs.{GoingLemmas.{on_found, on_lifted, on_next, on_stop}, EntryLemmas.at-put}
+use Rattle.rule_modules.proofs.{OrderLemmas.{pair_total, same_back, same_itself}, SoundLemmas.exact_addr}
+use Rattle.rule_modules.proofs.TokenLemmas.{tokens-put, tokens-within}
+use Rattle.base_decimals.specs.Decimals.{add_of}
+use Rattle.rule_machine.proofs.{PointLemmas.sound-more, PurseLemmas.{one-amount, one-money, one-rises}}
+use Rattle.law_soundness.proofs.Hooking.{before_is_idle, before_told, hook_gave, lists_before, on_hook, stake_hooks}
+use Rattle.law_soundness.proofs.{Lists.{all_put, looked_up}, Moves.{Leaves, ground_sent, keeps, stake_left}}
+use Rattle.law_soundness.proofs.Points.{IsRecorded, StakeFits, StateFits, StateLeft, WholeEntries}
+use Rattle.law_soundness.proofs.{Purses.{enough_held, there_still}, Rewards.{pair_at, start_leaves}}
+use Rattle.law_soundness.proofs.{Standing.{own_place, stake_relisted}, Steps.{on_then, weaker_if, and_also}}
+use Rattle.law_soundness.specs.StepLaws.{DelegatingKeepsSoundness}
 use Rattle.base_shares.specs.Shares.{issued_shares}
-use Rattle.std.specs.List.{AllByRecursion}
 
 -- ---- coins of the bond denomination
 

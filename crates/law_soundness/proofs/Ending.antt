@@ -1,37 +1,23 @@
 -- Mature unbondings that are paid, and mature redelegations that go, keep a state sound.
-use Rattle.std.proofs.Common.{◌≡◌, ◌∙◌, ℕ, ◌+◌, ◌*◌, ◌^◌, ◌≤◌, Bool, true, false, cond, List, [], ◌∷◌, length, refl, sym, ap, subst, arith}
-use Rattle.std.specs.Prelude.{not, filter, nat_le, if◌then◌else◌, IfOk}
+use Rattle.std.proofs.Common.{◌≡◌, ◌∙◌, ℕ, ◌+◌, ◌*◌, ◌^◌, ◌≤◌, Bool, true, false, cond, List, [], ◌∷◌, length, refl, sym, ap, subst, arith, not, filter, nat_le, if◌then◌else◌, IfOk, Less}
 use Rattle.base_types.specs.declared.account.Account.TheVariants as account
 use Rattle.base_types.specs.declared.account.Module.TheVariants as holder
-use Rattle.base_roles.specs.declared.entities.UnbondingEntry.{UnbondingEntry}
-use Rattle.base_roles.specs.declared.entities.RedelegationEntry.{RedelegationEntry}
-use Rattle.base_roles.specs.declared.params.Ctx.{Ctx}
-use Rattle.base_roles.specs.Owing.{Lists}
-use Rattle.base_roles.specs.World.{View, World, sent, over_view}
-use Rattle.rule_modules.specs.Unbondings.{key_then, UnbondingLists, completed, is_mature, paid_back}
-use Rattle.rule_modules.specs.Redelegations.{RedelegationLists, redelegations_completed}
-use Rattle.std.specs.List.{AllByRecursion}
-use Rattle.std.specs.List.Sorted.{IsStrictlySortedBy}
-use Rattle.std.specs.Map.{keys_of}
-use Rattle.std.specs.declared.cmp.Ordering.TheVariants.{Less}
-use Rattle.base_roles.specs.Holdings.{balance_of, is_short}
-use Rattle.base_roles.specs.Orders.{pair_cmp, triple_cmp}
+use Rattle.base_roles.specs.declared.entities.{UnbondingEntry.UnbondingEntry, RedelegationEntry.RedelegationEntry}
+use Rattle.base_roles.specs.{declared.params.Ctx.Ctx, Owing.Lists, World.{View, World, sent, over_view}}
+use Rattle.base_roles.specs.{Holdings.{balance_of, is_short}, Orders.{pair_cmp, triple_cmp}}
 use Rattle.base_roles.specs.Staked.{Staked, lists_of, other_tokens}
-use Rattle.law_soundness.proofs.Delegating.{all_other, bond_money, bond_moved, falls, has_enough, same_sum}
-use Rattle.law_soundness.proofs.Entries.{Entries, PairFits, PairsFit, from_pairs, sum_more, to_pairs}
-use Rattle.law_soundness.proofs.Lists.{weaker}
-use Rattle.rule_modules.proofs.OperatorLemmas.{filtered_all}
-use Rattle.law_soundness.proofs.Moves.{ground_sent, keeps_fits}
-use Rattle.law_soundness.proofs.Points.{StakeFits, StateFits}
-use Rattle.law_soundness.proofs.Redelegating.{TripleFits, from_triples, to_triples}
-use Rattle.rule_modules.proofs.TotalLemmas.{total_more}
-use Rattle.law_soundness.specs.StepLaws.{RedelegationsStepKeepsSoundness, UnbondingsStepKeepsSoundness}
-use Rattle.rule_modules.proofs.OrderLemmas.{pair_total}
-use Rattle.rule_modules.specs.Amounts.{bond_coins}
+use Rattle.rule_modules.specs.Unbondings.{key_then, UnbondingLists, completed, is_mature, paid_back}
+use Rattle.rule_modules.specs.{Redelegations.{RedelegationLists, redelegations_completed}, Amounts.bond_coins}
 use Rattle.rule_modules.specs.Chain.{Hooks, State, redelegations_step, staked_in, unbondings_step}
 use Rattle.rule_modules.specs.Owed.{balances_of, entry_balances}
 use Rattle.rule_modules.specs.Sound.{RedelegationIsSound, RedelegationsAreSound, UnbondingIsSound, UnbondingsAreSound}
-use Rattle.law_soundness.proofs.Steps.{weaker_if}
+use Rattle.rule_modules.proofs.{OperatorLemmas.filtered_all, TotalLemmas.total_more, OrderLemmas.pair_total}
+use Rattle.std.specs.{List.{AllByRecursion, Sorted.IsStrictlySortedBy}, Map.keys_of}
+use Rattle.law_soundness.proofs.Delegating.{all_other, bond_money, bond_moved, falls, has_enough, same_sum}
+use Rattle.law_soundness.proofs.{Entries.{Entries, PairFits, PairsFit, from_pairs, sum_more, to_pairs}, Lists.weaker}
+use Rattle.law_soundness.proofs.{Moves.{ground_sent, keeps_fits}, Points.{StakeFits, StateFits}}
+use Rattle.law_soundness.proofs.{Redelegating.{TripleFits, from_triples, to_triples}, Steps.weaker_if}
+use Rattle.law_soundness.specs.StepLaws.{RedelegationsStepKeepsSoundness, UnbondingsStepKeepsSoundness}
 
 -- ---- the items that pass a test
 

@@ -1,26 +1,15 @@
 -- Undelegating and cancelling keep a state sound: the balances of entries are what the not-bonded account holds besides
 -- tokens.
-use Rattle.std.proofs.Common.{◌≡◌, ◌∙◌, ℕ, ◌+◌, ◌^◌, ◌<◌, ◌≤◌, ◌==◌, Bool, true, false, cond, List, [], ◌∷◌, map, length, Some, None, Option, refl, ap, arith}
-use Rattle.std.specs.Prelude.{◌-◌, ◌&&◌, if◌then◌else◌, All, find, unwrap_or}
-use Rattle.std.specs.BTreeMap.{is_at}
-use Rattle.std.proofs.lemmas.Bool.Decides.{nat_tests}
-use Rattle.std.proofs.lemmas.List.Elements.{All-from_recursion, recursion_from_All}
+use Rattle.std.proofs.Common.{◌≡◌, ◌∙◌, ℕ, ◌+◌, ◌^◌, ◌<◌, ◌≤◌, ◌==◌, Bool, true, false, cond, List, [], ◌∷◌, map, length, Some, None, Option, refl, ap, arith, ◌-◌, ◌&&◌, if◌then◌else◌, All, find, unwrap_or}
+use Rattle.std.specs.{BTreeMap.is_at, List.{AllByRecursion, Sorted.IsStrictlySortedBy}, Map.keys_of}
+use Rattle.std.proofs.lemmas.{Bool.Decides.nat_tests, List.Elements.{All-from_recursion, recursion_from_All}}
 use Rattle.std.proofs.lemmas.List.Sums.{sum_by-cons}
-use Rattle.base_roles.specs.declared.entities.UnbondingEntry.{UnbondingEntry}
-use Rattle.std.specs.List.{AllByRecursion}
-use Rattle.std.specs.List.Sorted.{IsStrictlySortedBy}
-use Rattle.std.specs.Map.{keys_of}
-use Rattle.base_roles.specs.Entries.{at, without}
-use Rattle.base_roles.specs.Orders.{pair_cmp}
-use Rattle.law_soundness.proofs.Lists.{all_put, all_taken, ascend_taken, looked_up, weaker}
-use Rattle.rule_modules.proofs.TotalLemmas.{total_joined, total_left, total_put, total_within}
-use Rattle.rule_modules.proofs.EntryLemmas.{ascend-put}
-use Rattle.rule_modules.proofs.OrderLemmas.{pair_total}
-use Rattle.rule_modules.proofs.SoundLemmas.{exact_pair}
-use Rattle.rule_modules.specs.Owed.{balances_of, entry_balances}
-use Rattle.rule_modules.specs.Sound.{UnbondingIsSound, UnbondingsAreSound}
+use Rattle.base_roles.specs.{declared.entities.UnbondingEntry.UnbondingEntry, Entries.{at, without}, Orders.pair_cmp}
+use Rattle.law_soundness.proofs.{Lists.{all_put, all_taken, ascend_taken, looked_up, weaker}, Points.WholeEntries}
+use Rattle.rule_modules.proofs.{TotalLemmas.{total_joined, total_left, total_put, total_within}, EntryLemmas.ascend-put}
+use Rattle.rule_modules.proofs.{OrderLemmas.pair_total, SoundLemmas.exact_pair}
+use Rattle.rule_modules.specs.{Owed.{balances_of, entry_balances}, Sound.{UnbondingIsSound, UnbondingsAreSound}}
 use Rattle.rule_modules.specs.Unbondings.{UnbondingLists, can_be_cancelled, entries_of, grown, lowered, with_entries}
-use Rattle.law_soundness.proofs.Points.{WholeEntries}
 
 abbrev pub Entries : Type 0
 Entries = List UnbondingEntry

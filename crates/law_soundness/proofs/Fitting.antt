@@ -1,14 +1,8 @@
 -- What rules of distribution need and leave, from its parts.
 use Rattle.std.proofs.Common.{◌≡◌, ℕ, List, Some, refl}
-use Rattle.base_roles.specs.Ground.{IsInOrder}
-use Rattle.base_roles.specs.Owing.{Lists, HoldsOwed}
-use Rattle.base_roles.specs.World.{View}
-use Rattle.law_soundness.proofs.Bank.{AreHeld}
-use Rattle.law_soundness.proofs.Burns.{total_in}
-use Rattle.law_soundness.proofs.Moves.{HooksFit, Leaves}
-use Rattle.law_soundness.proofs.Points.{SharedFits}
-use Rattle.rule_modules.specs.Distribution.{Shared}
-use Rattle.rule_modules.specs.Owed.{owed_from_distribution}
+use Rattle.base_roles.specs.{Ground.IsInOrder, Owing.{Lists, HoldsOwed}, World.View}
+use Rattle.law_soundness.proofs.{Bank.AreHeld, Burns.total_in, Moves.{HooksFit, Leaves}, Points.SharedFits}
+use Rattle.rule_modules.specs.{Distribution.Shared, Owed.owed_from_distribution}
 
 module _ (P : List ℕ → Type 0) (T : List ℕ → ℕ) where
   pub fit_over : (v : View) (l : Lists) (d : Shared) → IsInOrder v → AreHeld P v.bank.balances → ((e : List ℕ) → total_in v e ≡ T e) → HoldsOwed (Some (owed_from_distribution d)) v → SharedFits P v.ctx.height l d → HooksFit P T v l d

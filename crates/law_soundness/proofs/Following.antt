@@ -1,29 +1,17 @@
 -- The next block keeps a state sound: heights that were are still heights that were.
-use Rattle.std.proofs.Common.{◌≡◌, ℕ, ◌^◌, ◌<◌, ◌≤◌, List, Some, arith}
-use Rattle.std.specs.Prelude.{All, length, Contains}
+use Rattle.std.proofs.Common.{◌≡◌, ℕ, ◌^◌, ◌<◌, ◌≤◌, List, Some, arith, All, length, Contains}
 use Rattle.std.proofs.lemmas.List.Elements.{All-weaker}
 use Rattle.base_types.specs.Orders.{addr_cmp}
-use Rattle.base_roles.specs.declared.entities.SlashEvent.{SlashEvent}
-use Rattle.base_roles.specs.declared.entities.StartingInfo.{StartingInfo}
-use Rattle.base_roles.specs.declared.entities.UnbondingEntry.{UnbondingEntry}
-use Rattle.base_roles.specs.declared.entities.RedelegationEntry.{RedelegationEntry}
-use Rattle.rule_modules.proofs.SoundLemmas.{later}
-use Rattle.base_roles.specs.Owing.{Lists}
-use Rattle.base_roles.specs.Entries.{at}
-use Rattle.base_roles.specs.Ground.{end_of_blocks}
-use Rattle.base_roles.specs.Staked.{lists_of}
-use Rattle.law_soundness.proofs.Burns.{total_in}
-use Rattle.law_soundness.proofs.Lists.{weaker}
+use Rattle.base_roles.specs.declared.entities.{SlashEvent.SlashEvent, StartingInfo.StartingInfo}
+use Rattle.base_roles.specs.declared.entities.{UnbondingEntry.UnbondingEntry, RedelegationEntry.RedelegationEntry}
+use Rattle.base_roles.specs.{Owing.Lists, Entries.at, Ground.end_of_blocks, Staked.lists_of}
+use Rattle.rule_modules.{proofs.SoundLemmas.later, specs.{Chain.State, Distribution.Shared, Laws.next_block}}
+use Rattle.rule_modules.specs.{Periods.Periods, Redelegations.RedelegationLists}
+use Rattle.rule_modules.specs.Sound.{RedelegationIsSound, RedelegationsAreSound, SigningIsSound, UnbondingIsSound, UnbondingsAreSound, WindowIsSound}
+use Rattle.rule_modules.specs.{Unbondings.UnbondingLists, Window.{Signing, Window}}
+use Rattle.law_soundness.proofs.{Burns.total_in, Lists.weaker}
 use Rattle.law_soundness.proofs.Points.{EventFits, PeriodsFit, SharedFits, StartFits, StateFits, from_fits, to_fits}
 use Rattle.law_soundness.specs.StepLaws.{NextBlockKeepsSoundness}
-use Rattle.rule_modules.specs.Chain.{State}
-use Rattle.rule_modules.specs.Distribution.{Shared}
-use Rattle.rule_modules.specs.Laws.{next_block}
-use Rattle.rule_modules.specs.Periods.{Periods}
-use Rattle.rule_modules.specs.Redelegations.{RedelegationLists}
-use Rattle.rule_modules.specs.Sound.{RedelegationIsSound, RedelegationsAreSound, SigningIsSound, UnbondingIsSound, UnbondingsAreSound, WindowIsSound}
-use Rattle.rule_modules.specs.Unbondings.{UnbondingLists}
-use Rattle.rule_modules.specs.Window.{Signing, Window}
 
 within : (a b c : ℕ) → a ≤ b → b ≤ c → a ≤ c
 within a b c l m = omega (arith, l, m)

@@ -1,50 +1,31 @@
 -- A good genesis starts a chain: none of its steps is refused, and none exceeds a limit.
-use Rattle.std.proofs.Common.{◌≡◌, ◌∙◌, ℕ, suc, ◌+◌, ◌*◌, ◌^◌, ◌<◌, ◌≤◌, ◌==◌, Bool, true, false, cond, List, [], ◌∷◌, length, map, Option, Some, None, Result, Ok, Err, refl, sym, ap, subst, arith}
-use Rattle.std.specs.Prelude.{◌-◌, ◌||◌, ◌&&◌, IsOkAnd, IfOk, if◌then◌else◌, unwrap_or}
-use Rattle.std.specs.List.{list_any, AllByRecursion}
-use Rattle.std.proofs.lemmas.Bool.Decides.{nat_tests}
-use Rattle.std.specs.BTreeMap.{is_at}
-use Rattle.base_roles.specs.Flow.{◌>>=◌, ◌>>◌, stop_if, or_stop, stopping, each}
+use Rattle.std.proofs.Common.{◌≡◌, ◌∙◌, ℕ, suc, ◌+◌, ◌*◌, ◌^◌, ◌<◌, ◌≤◌, ◌==◌, Bool, true, false, cond, List, [], ◌∷◌, length, map, Option, Some, None, Result, Ok, Err, refl, sym, ap, subst, arith, ◌-◌, ◌||◌, ◌&&◌, IsOkAnd, IfOk, if◌then◌else◌, unwrap_or}
+use Rattle.std.{specs.{List.{list_any, AllByRecursion}, BTreeMap.is_at}, proofs.lemmas.Bool.Decides.nat_tests}
+use Rattle.base_roles.specs.{Flow.{◌>>=◌, ◌>>◌, stop_if, or_stop, stopping, each}, declared.refusal.Refusal.Refusal}
+use Rattle.base_roles.specs.{declared.refusal.Refusal.TheVariants.{NoValidator, Overflow}, Entries.at, Items.no_purse}
+use Rattle.base_roles.specs.{Log.Log, Orders.pair_cmp, Pair.{and_then, given_with}}
+use Rattle.base_roles.specs.{Staked.{Staked, is_unbonded, delegation, put_validator}, World.{View, World, call, hooked}}
+use Rattle.base_roles.specs.declared.entities.{Purse.Purse, Validator.Validator}
 use Rattle.base_roles.specs.World as hook
-use Rattle.base_types.specs.declared.status.BondStatus.{BondStatus}
-use Rattle.base_types.specs.declared.status.BondStatus.TheVariants.{Bonded, Unbonding, Unbonded}
-use Rattle.base_decimals.specs.declared.over.Over.{Over}
-use Rattle.base_roles.specs.declared.refusal.Refusal.{Refusal}
-use Rattle.base_roles.specs.declared.refusal.Refusal.TheVariants.{NoValidator, Overflow}
-use Rattle.rule_machine.specs.Promises.{IsGoodGenesis, GenesisIsSound}
-use Rattle.rule_machine.proofs.StartLemmas.{Added, Begun, begun, entrant, may_start, no_stake, one_added}
-use Rattle.rule_machine.proofs.StakeLemmas.{all-found}
-use Rattle.rule_machine.proofs.UnhookedLemmas.{grown_stake, over}
-use Rattle.base_coins.specs.Coins.{Money, coins_quo_cut, coins_taken, smaller_of}
-use Rattle.base_decimals.specs.Decimals.{period_over}
-use Rattle.base_roles.specs.Entries.{at}
-use Rattle.base_roles.specs.Items.{no_purse}
-use Rattle.base_roles.specs.Log.{Log}
-use Rattle.base_roles.specs.Orders.{pair_cmp}
-use Rattle.base_roles.specs.Pair.{and_then, given_with}
-use Rattle.base_roles.specs.Staked.{Staked, is_unbonded, delegation, put_validator}
-use Rattle.base_roles.specs.World.{View, World, call, hooked}
-use Rattle.base_roles.specs.declared.entities.Purse.{Purse}
-use Rattle.base_roles.specs.declared.entities.Validator.{Validator}
-use Rattle.rule_machine.specs.Founding.{IsStarting, no_hook}
+use Rattle.base_types.specs.declared.status.BondStatus.{BondStatus, TheVariants.{Bonded, Unbonding, Unbonded}}
+use Rattle.base_types.specs.Orders.{addr_cmp}
+use Rattle.base_decimals.specs.{declared.over.Over.Over, Decimals.period_over}
+use Rattle.rule_machine.specs.{Promises.{IsGoodGenesis, GenesisIsSound}, Founding.{IsStarting, no_hook}}
 use Rattle.rule_machine.specs.GenesisConditions.{has_pair_twice}
 use Rattle.rule_machine.specs.GenesisState.{Start, chain_started, delegation_added, empty_over, ground_at_start, stake_added, validator_added, without_facts}
-use Rattle.base_messages.specs.declared.genesis.Genesis.{Genesis}
-use Rattle.base_messages.specs.declared.genesis.GenesisDelegation.{GenesisDelegation}
+use Rattle.rule_machine.proofs.StartLemmas.{Added, Begun, begun, entrant, may_start, no_stake, one_added}
+use Rattle.rule_machine.proofs.{StakeLemmas.all-found, UnhookedLemmas.{grown_stake, over}}
+use Rattle.base_coins.specs.Coins.{Money, coins_quo_cut, coins_taken, smaller_of}
+use Rattle.base_messages.specs.declared.genesis.{Genesis.Genesis, GenesisDelegation.GenesisDelegation}
 use Rattle.base_messages.specs.declared.genesis.GenesisValidator.{GenesisValidator}
-use Rattle.law_soundness.proofs.Giving.{set_gives}
-use Rattle.law_soundness.proofs.Starting.{geneses_start_sound}
-use Rattle.rule_modules.proofs.EntryLemmas.{at-put}
-use Rattle.rule_modules.proofs.OrderLemmas.{addr_total, pair_found, pair_total, same_back}
+use Rattle.law_soundness.proofs.{Giving.set_gives, Starting.geneses_start_sound}
+use Rattle.rule_modules.proofs.{EntryLemmas.at-put, OrderLemmas.{addr_total, pair_found, pair_total, same_back}}
 use Rattle.rule_modules.specs.Chain.{Hooks, chain_told, staked_in, with_staked}
 use Rattle.rule_modules.specs.Delegating.{delegated, hook_before, paid_in, pool, shares_given}
 use Rattle.rule_modules.specs.Distribution.{Shared, current_taken, left_by, told_of, ended}
 use Rattle.rule_modules.specs.Periods.{Periods, Rewards, initial_records, period_ended, periods_of, ratio_at, with_periods}
 use Rattle.rule_modules.specs.Purses.{Purses, current_emptied, current_pooled, pool_joined, purse_of, with_purse}
-use Rattle.rule_modules.specs.Sound.{IsSound}
-use Rattle.rule_modules.specs.Stakes.{put_delegation}
-use Rattle.rule_modules.specs.Window.{window_told}
-use Rattle.base_types.specs.Orders.{addr_cmp}
+use Rattle.rule_modules.specs.{Sound.IsSound, Stakes.put_delegation, Window.window_told}
 
 pub sure_then : {A B E : Type 0} (r : Result A E) (f : A → Result B E) (R : A → Type 0) (Q : B → Type 0) → IsOkAnd r R → ((a : A) → R a → IsOkAnd (f a) Q) → IsOkAnd (r >>= f) Q
 sure_then (Ok a) f R Q p h = h a p

@@ -1,48 +1,29 @@
 -- The end of a block never exceeds: the bonded set is made anew, and mature validators go, whatever a sound state holds.
-use Rattle.std.proofs.Common.{◌≡◌, ◌∙◌, ℕ, ◌+◌, ◌*◌, ◌^◌, ◌<◌, ◌≤◌, ◌==◌, Bool, true, false, List, [], ◌∷◌, Some, Result, Ok, refl, sym, ap, subst, arith}
-use Rattle.std.specs.Prelude.{◌-◌, ◌%◌, ◌&&◌, min, if◌then◌else◌, nat_le, is_some, Contains}
-use Rattle.std.proofs.lemmas.Bool.Decides.{nat_tests}
-use Rattle.std.specs.Map.{values_of}
-use Rattle.base_coins.proofs.Amounts.{added_fits, amount-added, amount-all}
-use Rattle.base_coins.proofs.Order.{rises_from_money}
+use Rattle.std.proofs.Common.{◌≡◌, ◌∙◌, ℕ, ◌+◌, ◌*◌, ◌^◌, ◌<◌, ◌≤◌, ◌==◌, Bool, true, false, List, [], ◌∷◌, Some, Result, Ok, refl, sym, ap, subst, arith, ◌-◌, ◌%◌, ◌&&◌, min, if◌then◌else◌, nat_le, is_some, Contains}
+use Rattle.std.{proofs.lemmas.Bool.Decides.nat_tests, specs.Map.values_of}
+use Rattle.base_coins.proofs.{Amounts.{added_fits, amount-added, amount-all}, Order.rises_from_money}
 use Rattle.base_coins.specs.Coins.{Money, amount_of, coins_added, coins_taken, fractions, whole_coins}
-use Rattle.base_roles.proofs.HoldingLemmas.{balance-most}
-use Rattle.base_roles.specs.Entries.{at, without}
-use Rattle.base_roles.specs.Owing.{Lists}
-use Rattle.base_roles.specs.Items.{no_purse}
-use Rattle.base_roles.specs.Pair.{and_then, given_with}
-use Rattle.base_roles.specs.Staked.{Staked, is_unbonded, lists_of, validator_at}
-use Rattle.base_roles.specs.Flow.{◌>>=◌, each}
-use Rattle.base_roles.specs.World.{View, World, hooked, noted, over_mine, over_view}
-use Rattle.base_roles.specs.declared.entities.Purse.{Purse}
-use Rattle.base_roles.specs.declared.entities.Validator.{Validator}
-use Rattle.law_soundness.proofs.Burns.{total_in}
-use Rattle.law_soundness.proofs.Hooking.{stake_hooks}
+use Rattle.base_roles.{proofs.HoldingLemmas.balance-most, specs.{Entries.{at, without}, Owing.Lists, Items.no_purse}}
+use Rattle.base_roles.specs.{Pair.{and_then, given_with}, Staked.{Staked, is_unbonded, lists_of, validator_at}}
+use Rattle.base_roles.specs.{Flow.{◌>>=◌, each}, World.{View, World, hooked, noted, over_mine, over_view}}
+use Rattle.base_roles.specs.declared.entities.{Purse.Purse, Validator.Validator}
+use Rattle.law_soundness.proofs.{Burns.total_in, Hooking.stake_hooks}
 use Rattle.law_soundness.proofs.Maturing.{AllStand, matured_fits, operators_are, stand_still, unbonded_fits, values_stand}
-use Rattle.rule_modules.proofs.OperatorLemmas.{values_own}
 use Rattle.law_soundness.proofs.Moves.{HooksFit}
 use Rattle.law_soundness.proofs.Names.{IsKnown, known_added, known_fractions, known_smaller, known_taken}
-use Rattle.law_soundness.proofs.Periods.{Ordered, some_unwrap}
-use Rattle.law_soundness.proofs.Points.{PurseFits, StakeFits, StateFits, to_fits}
-use Rattle.law_soundness.proofs.Purses.{owed_of, own_purse}
-use Rattle.law_soundness.proofs.Removing.{StakeLeft, stake_removed}
-use Rattle.law_soundness.proofs.Steps.{from_if}
-use Rattle.rule_modules.proofs.TotalLemmas.{total, total_left}
-use Rattle.rule_modules.proofs.OrderLemmas.{addr_total}
+use Rattle.law_soundness.proofs.{Periods.{Ordered, some_unwrap}, Points.{PurseFits, StakeFits, StateFits, to_fits}}
+use Rattle.law_soundness.proofs.{Purses.{owed_of, own_purse}, Removing.{StakeLeft, stake_removed}, Steps.from_if}
+use Rattle.rule_modules.proofs.{OperatorLemmas.values_own, TotalLemmas.{total, total_left}, OrderLemmas.addr_total}
 use Rattle.rule_modules.proofs.SoundLemmas.{found_itself}
 use Rattle.rule_modules.specs.BondedSet.{HaveOwnOperators, difference_moved, joined_set, joining_of, leaving_of, left_set, matured, set_updated, tokens_of, validators_matured}
 use Rattle.rule_modules.specs.Chain.{Hooks, State, chain_told, maturing_step, set_step, staked_in, with_staked}
-use Rattle.rule_modules.specs.Distribution.{Shared, records_removed, told_of, unlogged}
-use Rattle.rule_modules.specs.StepLaws.{BlocksEnd}
-use Rattle.rule_modules.specs.Owed.{entry_balances}
-use Rattle.rule_modules.specs.Purses.{Purses, closed, due_at_last, pool_joined, purse_of}
+use Rattle.rule_modules.specs.{Distribution.{Shared, records_removed, told_of, unlogged}, StepLaws.BlocksEnd}
+use Rattle.rule_modules.specs.{Owed.entry_balances, Purses.{Purses, closed, due_at_last, pool_joined, purse_of}}
 use Rattle.rule_modules.specs.Stakes.{changed, is_unbonding, without_validator}
-use Rattle.rule_modules.specs.Unbonding.{removed_if_empty, validator_removed}
-use Rattle.rule_modules.specs.Window.{window_told}
-use Rattle.base_types.specs.Orders.{addr_cmp}
+use Rattle.rule_modules.specs.{Unbonding.{removed_if_empty, validator_removed}, Window.window_told}
+use Rattle.base_types.specs.{Orders.addr_cmp, declared.status.BondStatus.TheVariants.Unbonded}
 use Rattle.base_types.specs.declared.account.Account.TheVariants as account
 use Rattle.base_types.specs.declared.account.Module.TheVariants as holder
-use Rattle.base_types.specs.declared.status.BondStatus.TheVariants.{Unbonded}
 use Rattle.base_decimals.specs.declared.over.Over.{Over}
 use Rattle.base_roles.specs.World as hook
 use Rattle.base_roles.specs.declared.facts.Fact.TheVariants as fact

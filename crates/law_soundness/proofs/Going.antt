@@ -1,16 +1,10 @@
 -- What holds of blocks that go on from a sound state, put together.
 use Rattle.std.proofs.Common.{◌+◌, ◌^◌, ◌<◌, List, length}
 use Rattle.base_messages.specs.declared.block.Block.{Block}
-use Rattle.rule_machine.specs.Machine.{run_of}
-use Rattle.rule_machine.specs.Promises.{AreInput}
-use Rattle.rule_modules.specs.Chain.{State}
-use Rattle.rule_modules.specs.Sound.{IsSound}
-use Rattle.law_soundness.proofs.Answered.{all_answered}
-use Rattle.law_soundness.proofs.Burns.{total_in}
-use Rattle.law_soundness.proofs.Points.{to_fits}
-use Rattle.law_soundness.proofs.Refusals.{runs_name_conditions}
-use Rattle.law_soundness.proofs.Running.{runs_burn, runs_keep_soundness}
-use Rattle.law_soundness.proofs.Starting.{room, started_well}
+use Rattle.rule_machine.specs.{Machine.run_of, Promises.AreInput}
+use Rattle.rule_modules.specs.{Chain.State, Sound.IsSound}
+use Rattle.law_soundness.proofs.{Answered.all_answered, Burns.total_in, Points.to_fits, Refusals.runs_name_conditions}
+use Rattle.law_soundness.proofs.{Running.{runs_burn, runs_keep_soundness}, Starting.{room, started_well}}
 use Rattle.law_soundness.specs.Going.{GoSoundly, RunsGoSoundly}
 
 onward : (blocks : List Block) (w : State) → AreInput blocks → IsSound w → w.view.ctx.height + length blocks < 2 ^ 63 → GoSoundly blocks w

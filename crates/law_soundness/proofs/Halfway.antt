@@ -1,42 +1,28 @@
 -- Half way through a genesis: no coins move while its validators and delegations are added, so what its next delegation needs still holds.
-use Rattle.std.proofs.Common.{◌≡◌, ◌∙◌, ℕ, ◌+◌, ◌*◌, ◌^◌, Bool, true, false, cond, List, [], ◌∷◌, map, Option, Some, None, Result, Ok, Err, refl, sym, ap, subst}
-use Rattle.std.specs.Prelude.{IfOk, unwrap_or}
-use Rattle.std.specs.List.{list_any}
-use Rattle.std.specs.BTreeMap.{is_at}
+use Rattle.std.proofs.Common.{◌≡◌, ◌∙◌, ℕ, ◌+◌, ◌*◌, ◌^◌, Bool, true, false, cond, List, [], ◌∷◌, map, Option, Some, None, Result, Ok, Err, refl, sym, ap, subst, IfOk, unwrap_or}
+use Rattle.std.specs.{List.list_any, BTreeMap.is_at}
 use Rattle.base_types.specs.declared.account.Account.TheVariants as account
 use Rattle.base_types.specs.declared.account.Module.TheVariants as holder
-use Rattle.base_types.specs.declared.status.BondStatus.{BondStatus}
-use Rattle.base_types.specs.declared.status.BondStatus.TheVariants.{Bonded, Unbonding, Unbonded}
+use Rattle.base_types.specs.declared.status.BondStatus.{BondStatus, TheVariants.{Bonded, Unbonding, Unbonded}}
 use Rattle.base_decimals.specs.declared.over.Over.{Over}
-use Rattle.base_roles.specs.declared.entities.Validator.{Validator}
-use Rattle.base_roles.specs.declared.params.Ctx.{Ctx}
-use Rattle.base_roles.specs.declared.refusal.Refusal.{Refusal}
+use Rattle.base_roles.specs.declared.{entities.Validator.Validator, params.Ctx.Ctx, refusal.Refusal.Refusal}
 use Rattle.base_roles.specs.declared.refusal.Refusal.TheVariants.{NoValidator, Overflow}
-use Rattle.base_roles.specs.Holdings.{Holdings, balance_of}
-use Rattle.base_roles.specs.Log.{Log}
-use Rattle.base_roles.specs.Orders.{pair_cmp}
-use Rattle.base_roles.specs.Pair.{and_then, given_with}
+use Rattle.base_roles.specs.{Holdings.{Holdings, balance_of}, Log.Log, Orders.pair_cmp, Pair.{and_then, given_with}}
 use Rattle.base_roles.specs.Staked.{Staked, delegation, is_unbonded, put_validator}
-use Rattle.base_roles.specs.Flow.{◌>>=◌, each, or_stop, stopping}
-use Rattle.base_roles.specs.World.{View, World, call, hooked}
+use Rattle.base_roles.specs.{Flow.{◌>>=◌, each, or_stop, stopping}, World.{View, World, call, hooked}}
 use Rattle.base_roles.specs.World as hook
-use Rattle.base_messages.specs.declared.genesis.Genesis.{Genesis}
-use Rattle.base_messages.specs.declared.genesis.GenesisDelegation.{GenesisDelegation}
+use Rattle.base_messages.specs.declared.genesis.{Genesis.Genesis, GenesisDelegation.GenesisDelegation}
 use Rattle.base_messages.specs.declared.genesis.GenesisValidator.{GenesisValidator}
-use Rattle.rule_machine.specs.Founding.{IsStarting, no_hook}
-use Rattle.rule_machine.specs.GenesisConditions.{has_pair_twice, start_condition}
+use Rattle.rule_machine.specs.{Founding.{IsStarting, no_hook}, GenesisConditions.{has_pair_twice, start_condition}}
 use Rattle.rule_machine.specs.GenesisState.{delegation_added, empty_over, ground_at_start, validator_added}
 use Rattle.rule_machine.proofs.StakeLemmas.{all-found}
 use Rattle.rule_machine.proofs.StartLemmas.{Added, Begun, begun, may_start, no_stake, one_added}
 use Rattle.rule_machine.proofs.UnhookedLemmas.{grown_stake, over}
-use Rattle.rule_modules.proofs.EntryLemmas.{at-put}
-use Rattle.rule_modules.proofs.OrderLemmas.{pair_total}
+use Rattle.rule_modules.proofs.{EntryLemmas.at-put, OrderLemmas.pair_total}
 use Rattle.rule_modules.specs.Chain.{Hooks, chain_told, staked_in}
 use Rattle.rule_modules.specs.Delegating.{delegated, hook_before, paid_in, pool, shares_given}
 use Rattle.rule_modules.specs.Distribution.{Shared, current_taken, ended, left_by, told_of}
-use Rattle.rule_modules.specs.Periods.{period_ended, periods_of}
-use Rattle.rule_modules.specs.Stakes.{put_delegation}
-use Rattle.rule_modules.specs.Window.{window_told}
+use Rattle.rule_modules.specs.{Periods.{period_ended, periods_of}, Stakes.put_delegation, Window.window_told}
 use Rattle.law_soundness.proofs.Founding.{ArePairsNew, either_not, entered, entered_is, none_yet, pairs_after}
 use Rattle.law_soundness.proofs.Steps.{on_then, weaker_if}
 

@@ -1,24 +1,14 @@
 -- Calls of the chain's hooks: distribution does its part, and the window nothing, but where a validator is bonded.
-use Rattle.std.proofs.Common.{◌≡◌, ℕ, true, false, cond, List, [], ◌++◌, Some, None, Option, Result, Ok, Err, refl, sym, subst}
-use Rattle.std.specs.Prelude.{◌&&◌, IfOk, is_some}
-use Rattle.base_roles.specs.Log.{Log}
-use Rattle.base_roles.specs.Pair.{and_then, given_with}
-use Rattle.base_roles.specs.World.{View, Hook, Told, gives, exceeds, World, hooked, call}
-use Rattle.base_roles.specs.Flow.{◌>>=◌, stopping}
-use Rattle.base_roles.specs.declared.entities.Validator.{Validator}
-use Rattle.rule_modules.specs.Distribution.{Shared, distribution_told, told_of, left_by, unlogged, ended, reward_withdrawn}
-use Rattle.rule_modules.specs.Delegating.{hook_before}
-use Rattle.base_decimals.specs.declared.over.Over.{Over}
-use Rattle.base_roles.specs.Hooks.{with_started}
-use Rattle.base_roles.specs.Owing.{Lists}
-use Rattle.base_roles.specs.Orders.{same_addr}
+use Rattle.std.proofs.Common.{◌≡◌, ℕ, true, false, cond, List, [], ◌++◌, Some, None, Option, Result, Ok, Err, refl, sym, subst, ◌&&◌, IfOk, is_some}
+use Rattle.base_roles.specs.{Log.Log, Pair.{and_then, given_with}}
+use Rattle.base_roles.specs.{World.{View, Hook, Told, gives, exceeds, World, hooked, call}, Flow.{◌>>=◌, stopping}}
+use Rattle.base_roles.specs.{declared.entities.Validator.Validator, Hooks.with_started, Owing.Lists, Orders.same_addr}
 use Rattle.base_roles.specs.Staked.{Staked}
-use Rattle.law_soundness.proofs.Moves.{HooksFit, Leaves}
-use Rattle.law_soundness.proofs.Points.{StakeFits}
-use Rattle.law_soundness.proofs.Rewards.{EndFits, end_fits, withdrawal_leaves}
-use Rattle.law_soundness.proofs.Steps.{weaker_if}
-use Rattle.rule_modules.specs.Chain.{Hooks, chain_told}
-use Rattle.rule_modules.specs.Window.{Window, window_told}
+use Rattle.rule_modules.specs.Distribution.{Shared, distribution_told, told_of, left_by, unlogged, ended, reward_withdrawn}
+use Rattle.rule_modules.specs.{Delegating.hook_before, Chain.{Hooks, chain_told}, Window.{Window, window_told}}
+use Rattle.base_decimals.specs.declared.over.Over.{Over}
+use Rattle.law_soundness.proofs.{Moves.{HooksFit, Leaves}, Points.StakeFits}
+use Rattle.law_soundness.proofs.{Rewards.{EndFits, end_fits, withdrawal_leaves}, Steps.weaker_if}
 
 -- what is told holds, where something is given
 abbrev pub IfTold : Told Shared → (Shared → View → Type 0) → Type 0

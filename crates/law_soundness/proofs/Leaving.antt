@@ -1,43 +1,30 @@
 -- Undelegating, and cancelling it, keep a state sound.
-use Rattle.std.proofs.Common.{◌≡◌, ◌∙◌, ℕ, ◌+◌, ◌^◌, ◌≤◌, ◌==◌, Bool, true, false, cond, List, [], ◌∷◌, length, Some, None, Option, refl, sym, ap, subst, arith}
-use Rattle.std.specs.Prelude.{if◌then◌else◌, IfOk, find, nat_lt, nat_le, unwrap_or, All, Contains}
-use Rattle.std.specs.BTreeMap.{is_at}
-use Rattle.std.proofs.lemmas.Bool.Decides.{nat_tests}
+use Rattle.std.proofs.Common.{◌≡◌, ◌∙◌, ℕ, ◌+◌, ◌^◌, ◌≤◌, ◌==◌, Bool, true, false, cond, List, [], ◌∷◌, length, Some, None, Option, refl, sym, ap, subst, arith, if◌then◌else◌, IfOk, find, nat_lt, nat_le, unwrap_or, All, Contains}
+use Rattle.std.{specs.{BTreeMap.is_at, List.AllByRecursion}, proofs.lemmas.Bool.Decides.nat_tests}
+use Rattle.std.proofs.lemmas.List.Elements.{recursion_from_All}
 use Rattle.base_types.specs.declared.account.Account.TheVariants as account
 use Rattle.base_types.specs.declared.account.Module.TheVariants as holder
 use Rattle.base_types.specs.declared.status.BondStatus.TheVariants.{Unbonded}
-use Rattle.base_coins.specs.declared.coin.Coin.{Coin}
-use Rattle.base_roles.specs.declared.entities.UnbondingEntry.{UnbondingEntry}
-use Rattle.base_roles.specs.declared.entities.Validator.{Validator}
-use Rattle.base_roles.specs.declared.params.Ctx.{Ctx}
+use Rattle.base_coins.specs.{declared.coin.Coin.Coin, Coins.coin_then}
+use Rattle.base_roles.specs.declared.{entities.{UnbondingEntry.UnbondingEntry, Validator.Validator}, params.Ctx.Ctx}
 use Rattle.base_roles.specs.declared.refusal.Refusal.TheVariants.{WrongDenom, NonPositive, NoValidator, NoDelegation, NoTokens, TooManyShares, RateInvalid, UnbondingsFull, Jailed, NoEntry, CancelTooMuch, Overflow}
-use Rattle.base_roles.specs.World.{View, World, sent, over_view}
-use Rattle.rule_modules.specs.Delegating.{pool, delegated, is_wrong}
-use Rattle.std.proofs.lemmas.List.Elements.{recursion_from_All}
-use Rattle.std.specs.List.{AllByRecursion}
-use Rattle.base_coins.specs.Coins.{coin_then}
-use Rattle.base_roles.specs.Entries.{at}
-use Rattle.base_roles.specs.Orders.{pair_cmp}
+use Rattle.base_roles.specs.{World.{View, World, sent, over_view}, Entries.at, Orders.pair_cmp}
 use Rattle.base_roles.specs.Staked.{Staked, is_bonded, lists_of, delegation, validator_at}
-use Rattle.law_soundness.proofs.Burns.{total_in}
-use Rattle.law_soundness.proofs.Delegating.{all_other, delegated_fits, to_not_bonded}
-use Rattle.law_soundness.proofs.Entries.{EntriesLeft, PairFits, PairsFit, entries_gone, entries_put, from_pairs, grown_balances, grown_length, grown_sound, lowered_balances, lowered_sound, lowered_whole, own_entries, own_within, to_pairs, whole_entries, Entries}
-use Rattle.law_soundness.proofs.Lists.{looked_up, weaker}
-use Rattle.law_soundness.proofs.Moves.{keeps}
-use Rattle.law_soundness.proofs.Points.{StakeFits, StateFits, from_fits, to_fits, AreAllWhole, StateLeft, WholeEntries}
-use Rattle.law_soundness.proofs.Standing.{own_place}
-use Rattle.law_soundness.proofs.Steps.{and_also, on_lifted_then, on_then, weaker_if}
-use Rattle.rule_modules.proofs.GoingLemmas.{on_found, on_lifted, on_stop}
-use Rattle.law_soundness.proofs.Unbonding.{HasUnbonded, unbonded_fits}
-use Rattle.law_soundness.specs.StepLaws.{CancellingKeepsSoundness, IsSoundAfter, UndelegatingKeepsSoundness}
-use Rattle.rule_modules.specs.Amounts.{bond_coins}
+use Rattle.rule_modules.specs.{Delegating.{pool, delegated, is_wrong}, Amounts.bond_coins}
 use Rattle.rule_modules.specs.Chain.{Hooks, State, chain_told, staked_in, with_staked}
-use Rattle.rule_modules.specs.Effects.{cancel_unbonding, undelegate}
-use Rattle.rule_modules.specs.StepLaws.{AreWhole}
+use Rattle.rule_modules.specs.{Effects.{cancel_unbonding, undelegate}, StepLaws.AreWhole}
 use Rattle.rule_modules.specs.Owed.{balances_of, entry_balances}
 use Rattle.rule_modules.specs.Sound.{RedelegationsAreSound, UnbondingIsSound, UnbondingsAreSound}
 use Rattle.rule_modules.specs.Unbonding.{shares_to_unbond, unbonded_shares}
 use Rattle.rule_modules.specs.Unbondings.{UnbondingLists, can_be_cancelled, cancelled, completion, entries_of, grown, lowered, undelegated, with_entries}
+use Rattle.rule_modules.proofs.GoingLemmas.{on_found, on_lifted, on_stop}
+use Rattle.law_soundness.proofs.{Burns.total_in, Delegating.{all_other, delegated_fits, to_not_bonded}}
+use Rattle.law_soundness.proofs.Entries.{EntriesLeft, PairFits, PairsFit, entries_gone, entries_put, from_pairs, grown_balances, grown_length, grown_sound, lowered_balances, lowered_sound, lowered_whole, own_entries, own_within, to_pairs, whole_entries, Entries}
+use Rattle.law_soundness.proofs.{Lists.{looked_up, weaker}, Moves.keeps}
+use Rattle.law_soundness.proofs.Points.{StakeFits, StateFits, from_fits, to_fits, AreAllWhole, StateLeft, WholeEntries}
+use Rattle.law_soundness.proofs.{Standing.own_place, Steps.{and_also, on_lifted_then, on_then, weaker_if}}
+use Rattle.law_soundness.proofs.Unbonding.{HasUnbonded, unbonded_fits}
+use Rattle.law_soundness.specs.StepLaws.{CancellingKeepsSoundness, IsSoundAfter, UndelegatingKeepsSoundness}
 use Rattle.base_shares.specs.Shares.{amount_out, has_invalid_rate, shares_for_amount}
 
 -- the shares that are unbonded are among those that a delegation holds

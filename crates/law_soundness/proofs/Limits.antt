@@ -1,46 +1,26 @@
 -- A hook before a delegation changes is over where what it reads says so: the purse and the periods of its validator, and the
 -- start of the delegation; in a sound state coins that join the pool never are.
-use Rattle.std.proofs.Common.{◌≡◌, ◌∙◌, ℕ, ◌+◌, ◌*◌, ◌^◌, ◌<◌, ◌≤◌, ◌==◌, Bool, true, false, List, [], ◌∷◌, ◌++◌, Option, Some, None, Result, Ok, Err, refl, sym, ap, subst, arith}
-use Rattle.std.specs.Prelude.{◌%◌, if◌then◌else◌, is_some, min, unwrap_or}
+use Rattle.std.proofs.Common.{◌≡◌, ◌∙◌, ℕ, ◌+◌, ◌*◌, ◌^◌, ◌<◌, ◌≤◌, ◌==◌, Bool, true, false, List, [], ◌∷◌, ◌++◌, Option, Some, None, Result, Ok, Err, refl, sym, ap, subst, arith, ◌%◌, if◌then◌else◌, is_some, min, unwrap_or}
 use Rattle.base_types.specs.declared.account.Account.TheVariants as account
 use Rattle.base_types.specs.declared.account.Module.TheVariants as holder
 use Rattle.base_types.specs.Orders.{addr_cmp}
 use Rattle.base_decimals.specs.declared.over.Over.{Over}
-use Rattle.base_coins.proofs.Amounts.{added_fits, amount-all}
-use Rattle.base_coins.proofs.Order.{rises_from_money}
+use Rattle.base_coins.proofs.{Amounts.{added_fits, amount-all}, Order.rises_from_money}
 use Rattle.base_coins.specs.Coins.{Money, amount_of, coins_quo_cut, coins_taken, fractions, smaller_of, whole_coins}
 use Rattle.base_shares.specs.Shares.{value_even_of}
-use Rattle.base_roles.specs.declared.entities.Purse.{Purse}
-use Rattle.base_roles.specs.declared.entities.StartingInfo.{StartingInfo}
-use Rattle.base_roles.specs.declared.entities.Validator.{Validator}
-use Rattle.base_roles.specs.declared.facts.Fact.TheVariants as fact
-use Rattle.base_roles.specs.declared.refusal.Refusal.{Refusal}
-use Rattle.base_roles.specs.declared.refusal.Refusal.TheVariants.{Overflow}
-use Rattle.base_roles.proofs.HoldingLemmas.{balance-most}
-use Rattle.base_roles.specs.Entries.{at}
-use Rattle.base_roles.specs.Owing.{Lists}
-use Rattle.base_roles.specs.Items.{no_purse}
-use Rattle.base_roles.specs.Log.{Log}
-use Rattle.base_roles.specs.Log as log
-use Rattle.base_roles.specs.Pair.{and_then, given_with}
-use Rattle.base_roles.specs.Staked.{Staked}
-use Rattle.base_roles.specs.Flow.{◌>>=◌}
+use Rattle.base_roles.specs.declared.entities.{Purse.Purse, StartingInfo.StartingInfo, Validator.Validator}
+use Rattle.base_roles.specs.{declared.refusal.Refusal.{Refusal, TheVariants.Overflow}, Entries.at, Owing.Lists}
+use Rattle.base_roles.specs.{Items.no_purse, Log.Log, Pair.{and_then, given_with}, Staked.Staked, Flow.{◌>>=◌}}
 use Rattle.base_roles.specs.World.{View, World, call, hooked, modifying, noted, starting}
-use Rattle.law_soundness.proofs.Apart.{ReadsSame}
-use Rattle.law_soundness.proofs.Giving.{Gives, gives_on, joins}
-use Rattle.law_soundness.proofs.Moves.{HooksFit, Leaves, fit_after}
-use Rattle.law_soundness.proofs.Names.{IsKnown, known_fractions, known_smaller}
-use Rattle.law_soundness.proofs.Periods.{Ordered, some_unwrap}
-use Rattle.law_soundness.proofs.Points.{PurseFits}
-use Rattle.law_soundness.proofs.Purses.{owed_of, own_purse}
-use Rattle.law_soundness.proofs.Rewards.{due_leaves, put_found}
+use Rattle.base_roles.proofs.HoldingLemmas.{balance-most}
+use Rattle.base_roles.specs.declared.facts.Fact.TheVariants as fact
+use Rattle.base_roles.specs.Log as log
+use Rattle.law_soundness.proofs.{Apart.ReadsSame, Giving.{Gives, gives_on, joins}, Moves.{HooksFit, Leaves, fit_after}}
+use Rattle.law_soundness.proofs.{Names.{IsKnown, known_fractions, known_smaller}, Periods.{Ordered, some_unwrap}}
+use Rattle.law_soundness.proofs.{Points.PurseFits, Purses.{owed_of, own_purse}, Rewards.{due_leaves, put_found}}
 use Rattle.law_soundness.proofs.Steps.{from_if}
-use Rattle.rule_modules.proofs.TotalLemmas.{total_left}
-use Rattle.rule_modules.proofs.OrderLemmas.{addr_total}
-use Rattle.rule_modules.specs.Amounts.{over_facts}
-use Rattle.rule_modules.specs.Chain.{Hooks, chain_told}
-use Rattle.rule_modules.specs.Conditions.{over_in}
-use Rattle.rule_modules.specs.Delegating.{hook_before}
+use Rattle.rule_modules.{proofs.{TotalLemmas.total_left, OrderLemmas.addr_total}, specs.Amounts.over_facts}
+use Rattle.rule_modules.specs.{Chain.{Hooks, chain_told}, Conditions.over_in, Delegating.hook_before}
 use Rattle.rule_modules.specs.Distribution.{Shared, ended, current_taken, left_by, paid_to, payee_of, reward_due, reward_withdrawn, told_of}
 use Rattle.rule_modules.specs.Periods.{Periods, initial_records, last_ended, period_ended, periods_of, reward_at, start_of, with_periods, without_start}
 use Rattle.rule_modules.specs.Window.{window_told}

@@ -1,45 +1,24 @@
 -- Validators whose unbonding is mature, and the bonded set made anew, keep a state sound.
-use Rattle.std.proofs.Common.{◌≡◌, ◌∙◌, ℕ, ◌+◌, Bool, true, false, cond, List, [], ◌∷◌, Some, Ok, refl, ap, arith, ◌++◌}
-use Rattle.std.specs.Prelude.{◌&&◌, nat_le, if◌then◌else◌, IfOk}
-use Rattle.std.proofs.lemmas.List.Elements.{recursion_from_All}
-use Rattle.base_types.specs.declared.status.BondStatus.{BondStatus}
-use Rattle.base_types.specs.declared.status.BondStatus.TheVariants.{Bonded, Unbonding, Unbonded}
-use Rattle.base_types.specs.Orders.{addr_cmp}
-use Rattle.base_roles.specs.declared.entities.Validator.{Validator}
-use Rattle.base_roles.specs.declared.facts.Fact.TheVariants as fact
-use Rattle.base_roles.specs.Owing.{Lists}
-use Rattle.base_roles.specs.Flow.{each}
-use Rattle.base_roles.specs.World.{World, over_mine}
-use Rattle.std.specs.List.{AllByRecursion}
-use Rattle.std.specs.List.Sorted.{IsStrictlySortedBy}
+use Rattle.std.proofs.Common.{◌≡◌, ◌∙◌, ℕ, ◌+◌, Bool, true, false, cond, List, [], ◌∷◌, Some, Ok, refl, ap, arith, ◌++◌, ◌&&◌, nat_le, if◌then◌else◌, IfOk, is_eq, Less}
+use Rattle.std.{proofs.lemmas.List.Elements.recursion_from_All, specs.List.{AllByRecursion, Sorted.IsStrictlySortedBy}}
 use Rattle.std.specs.Map.{keys_of, values_of}
-use Rattle.std.specs.Ordering.{is_eq}
-use Rattle.std.specs.declared.cmp.Ordering.TheVariants.{Less}
-use Rattle.base_roles.specs.Entries.{with}
-use Rattle.base_roles.specs.Orders.{same_addr}
+use Rattle.base_types.specs.declared.status.BondStatus.{BondStatus, TheVariants.{Bonded, Unbonding, Unbonded}}
+use Rattle.base_types.specs.Orders.{addr_cmp}
+use Rattle.base_roles.specs.{declared.entities.Validator.Validator, Owing.Lists, Flow.each, World.{World, over_mine}}
+use Rattle.base_roles.specs.{Entries.with, Orders.same_addr}
 use Rattle.base_roles.specs.Staked.{Staked, is_bonded, lists_of, tokens_where, validator_at, put_validator}
 use Rattle.base_roles.specs.StakeChanges.{of_bond}
-use Rattle.law_soundness.proofs.Burns.{quiet_behind}
-use Rattle.law_soundness.proofs.Delegating.{others, state_with}
-use Rattle.law_soundness.proofs.Lists.{all_put, mapped_all}
-use Rattle.law_soundness.proofs.Moves.{keeps}
-use Rattle.law_soundness.proofs.Points.{IsRecorded, StakeFits, StateFits, StateLeft}
-use Rattle.law_soundness.proofs.Purses.{there_still}
-use Rattle.law_soundness.proofs.Removing.{StakeLeft, removed_if_fits}
-use Rattle.law_soundness.proofs.Standing.{stake_relisted, stake_told}
-use Rattle.law_soundness.proofs.Steps.{and_also, on_then, weaker_if}
-use Rattle.law_soundness.specs.StepLaws.{MaturingKeepsSoundness}
-use Rattle.rule_modules.proofs.EntryLemmas.{to_all}
-use Rattle.rule_modules.proofs.OrderLemmas.{addr_total, same_back}
+use Rattle.base_roles.specs.declared.facts.Fact.TheVariants as fact
+use Rattle.law_soundness.proofs.{Burns.quiet_behind, Delegating.{others, state_with}, Lists.{all_put, mapped_all}}
+use Rattle.law_soundness.proofs.{Moves.keeps, Points.{IsRecorded, StakeFits, StateFits, StateLeft}, Purses.there_still}
+use Rattle.law_soundness.proofs.{Removing.{StakeLeft, removed_if_fits}, Standing.{stake_relisted, stake_told}}
+use Rattle.law_soundness.{proofs.Steps.{and_also, on_then, weaker_if}, specs.StepLaws.MaturingKeepsSoundness}
+use Rattle.rule_modules.proofs.{EntryLemmas.to_all, OrderLemmas.{addr_total, same_back}}
 use Rattle.rule_modules.proofs.SoundLemmas.{IsSoundAt, exact_addr, found-put, found_itself, sound-put}
-use Rattle.rule_modules.proofs.TokenLemmas.{counted, tokens-put}
-use Rattle.rule_modules.proofs.OperatorLemmas.{values_own}
+use Rattle.rule_modules.proofs.{TokenLemmas.{counted, tokens-put}, OperatorLemmas.values_own}
 use Rattle.rule_modules.specs.BondedSet.{HaveOwnOperators, matured, validators_matured}
-use Rattle.rule_modules.specs.Chain.{Hooks, State, chain_told, maturing_step, staked_in}
-use Rattle.rule_modules.specs.Owed.{entry_balances}
-use Rattle.rule_modules.specs.Sound.{ValidatorIsSound}
-use Rattle.rule_modules.specs.Stakes.{is_unbonding, changed}
-use Rattle.rule_modules.specs.Unbonding.{removed_if_empty}
+use Rattle.rule_modules.specs.{Chain.{Hooks, State, chain_told, maturing_step, staked_in}, Owed.entry_balances}
+use Rattle.rule_modules.specs.{Sound.ValidatorIsSound, Stakes.{is_unbonding, changed}, Unbonding.removed_if_empty}
 
 -- ---- lists of validators of different operators
 

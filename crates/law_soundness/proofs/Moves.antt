@@ -1,41 +1,26 @@
 -- Fees, sends and payees keep a state sound; and what a rule of distribution leaves of all else.
-use Rattle.std.proofs.Common.{◌≡◌, ◌∙◌, ℕ, ◌+◌, ◌*◌, ◌^◌, false, cond, List, [], Some, Result, refl, sym, ap, subst, ◌++◌}
-use Rattle.std.specs.Prelude.{Contains, IfOk, not}
-use Rattle.std.specs.BTreeMap.{is_at}
-use Rattle.base_types.specs.declared.account.Account.{Account}
+use Rattle.std.proofs.Common.{◌≡◌, ◌∙◌, ℕ, ◌+◌, ◌*◌, ◌^◌, false, cond, List, [], Some, Result, refl, sym, ap, subst, ◌++◌, Contains, IfOk, not}
+use Rattle.std.specs.{BTreeMap.is_at, List.AllByRecursion}
+use Rattle.base_types.specs.{declared.account.Account.Account, Orders.{addr_cmp, account_cmp, denom_cmp}}
 use Rattle.base_types.specs.declared.account.Account.TheVariants as account
 use Rattle.base_types.specs.declared.account.Module.TheVariants as holder
-use Rattle.base_types.specs.Orders.{addr_cmp, account_cmp, denom_cmp}
 use Rattle.base_coins.specs.Coins.{Money, IsMoney}
 use Rattle.base_roles.specs.declared.params.Ctx.{Ctx}
 use Rattle.base_roles.specs.declared.refusal.Refusal.TheVariants.{InsufficientFunds, NonPositive, WithdrawFixed, FeeUnpaid}
-use Rattle.base_roles.specs.Holdings.{balance_of, is_short, supply_of}
-use Rattle.base_roles.specs.Owing.{Lists, HoldsOwed}
-use Rattle.base_roles.specs.Log.{Log}
-use Rattle.base_roles.specs.Staked.{Staked, bonded_tokens, other_tokens, lists_of}
-use Rattle.base_roles.specs.StakeChanges.{of_bond}
-use Rattle.base_roles.specs.World.{View, World, sent, over_view}
+use Rattle.base_roles.specs.{Holdings.{balance_of, is_short, supply_of}, Owing.{Lists, HoldsOwed}, Log.Log}
+use Rattle.base_roles.specs.{Staked.{Staked, bonded_tokens, other_tokens, lists_of}, StakeChanges.of_bond}
+use Rattle.base_roles.specs.{World.{View, World, sent, over_view}, declared.facts.Fact.Fact, Entries.with}
 use Rattle.base_roles.proofs.HoldingLemmas.{backed-moved, balance-moved_elsewhere}
-use Rattle.base_roles.specs.declared.facts.Fact.{Fact}
-use Rattle.rule_modules.specs.Amounts.{is_empty, over_facts}
-use Rattle.rule_modules.specs.Chain.{Hooks, State, with_shared, staked_in}
-use Rattle.rule_modules.specs.Distribution.{Shared}
-use Rattle.rule_modules.specs.Effects.{coins_sent, send, set_withdraw_address, fee_paid}
-use Rattle.rule_modules.specs.StepLaws.{KeptByStep, SupplyFallsByBurns}
-use Rattle.rule_modules.specs.Owed.{owed_from_distribution}
-use Rattle.rule_modules.specs.Withdrawals.{payee_set}
-use Rattle.rule_modules.specs.Sound.{WindowIsSound, RedelegationsAreSound, UnbondingsAreSound}
-use Rattle.rule_modules.proofs.EntryLemmas.{ascend-put}
-use Rattle.rule_modules.proofs.OrderLemmas.{addr_total}
-use Rattle.rule_modules.proofs.SoundLemmas.{IsSoundAt}
+use Rattle.rule_modules.specs.{Amounts.{is_empty, over_facts}, Chain.{Hooks, State, with_shared, staked_in}}
+use Rattle.rule_modules.specs.{Distribution.Shared, Effects.{coins_sent, send, set_withdraw_address, fee_paid}}
+use Rattle.rule_modules.specs.{StepLaws.{KeptByStep, SupplyFallsByBurns}, Owed.owed_from_distribution}
+use Rattle.rule_modules.specs.{Withdrawals.payee_set, Sound.{WindowIsSound, RedelegationsAreSound, UnbondingsAreSound}}
+use Rattle.rule_modules.proofs.{EntryLemmas.ascend-put, OrderLemmas.addr_total, SoundLemmas.IsSoundAt}
+use Rattle.rule_modules.proofs.GoingLemmas.{on_stop}
 use Rattle.law_soundness.specs.StepLaws.{IsSoundAfter, FeesKeepSoundness, SendsKeepSoundness, PayeesKeepSoundness}
-use Rattle.law_soundness.proofs.Bank.{held_moved, known_enough}
-use Rattle.law_soundness.proofs.Burns.{SayNoMore, total_in, total_sent}
+use Rattle.law_soundness.proofs.{Bank.{held_moved, known_enough}, Burns.{SayNoMore, total_in, total_sent}}
 use Rattle.law_soundness.proofs.Points.{SharedFits, GroundFits, StakeFits, StateFits, to_fits, from_fits, StateLeft, WholeEntries}
 use Rattle.law_soundness.proofs.Steps.{on_then, if_ok, from_if}
-use Rattle.rule_modules.proofs.GoingLemmas.{on_stop}
-use Rattle.base_roles.specs.Entries.{with}
-use Rattle.std.specs.List.{AllByRecursion}
 
 -- what keeps all that fits, whatever property denominations have, keeps soundness
 pub keeps : {E : Type 0} (f : State → Result State E) → ((P : List ℕ → Type 0) (T : List ℕ → ℕ) (w : State) → StateFits P T w → IfOk (f w) (StateLeft P T w)) → KeptByStep IsSoundAfter f

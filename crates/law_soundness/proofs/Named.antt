@@ -1,11 +1,9 @@
 -- Every message is refused by the first of its conditions that holds of a sound state, and accepted where none does.
 use Rattle.base_messages.specs.declared.message.Msg.TheVariants as msg
 use Rattle.rule_machine.specs.Promises.{MessagesNameConditions}
-use Rattle.law_soundness.proofs.Created.{creations_refused}
-use Rattle.law_soundness.proofs.Redelegated.{redelegations_refused}
+use Rattle.law_soundness.proofs.{Created.creations_refused, Redelegated.redelegations_refused}
 use Rattle.law_soundness.proofs.Refused.{cancellations_refused, delegations_refused, rewards_refused}
-use Rattle.law_soundness.proofs.Refusing.{funds_refused}
-use Rattle.law_soundness.proofs.Undelegated.{undelegations_refused}
+use Rattle.law_soundness.proofs.{Refusing.funds_refused, Undelegated.undelegations_refused}
 use Rattle.rule_modules.proofs.ParameterLemmas.{updates_refused}
 use Rattle.rule_modules.proofs.RefusalLemmas.{commissions_refused, edits_refused, payees_refused, sends_refused, spends_refused, unjails_refused}
 use Rattle.rule_modules.specs.RefusalOrder.{RefusalsNameConditions}

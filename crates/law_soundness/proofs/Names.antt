@@ -1,15 +1,11 @@
 -- Lists of coins whose denominations have a property, and what is made of them by sums, differences, products and parts.
-use Rattle.std.proofs.Common.{◌≡◌, ℕ, ◌*◌, ◌^◌, ◌<◌, ◌≤◌, ◌==◌, Bool, true, false, cond, List, [], ◌∷◌, Result, Ok, refl, subst, arith}
-use Rattle.std.specs.Prelude.{◌-◌, ◌%◌, min, unwrap_or, Some}
-use Rattle.std.specs.List.{AllByRecursion}
-use Rattle.std.specs.Map.{lookup, remove_entry}
-use Rattle.std.specs.BTreeMap.{is_at, insert_entry}
+use Rattle.std.proofs.Common.{◌≡◌, ℕ, ◌*◌, ◌^◌, ◌<◌, ◌≤◌, ◌==◌, Bool, true, false, cond, List, [], ◌∷◌, Result, Ok, refl, subst, arith, ◌-◌, ◌%◌, min, unwrap_or, Some}
+use Rattle.std.specs.{List.AllByRecursion, Map.{lookup, remove_entry}, BTreeMap.{is_at, insert_entry}}
 use Rattle.base_decimals.specs.declared.over.Over.{Over}
 use Rattle.base_decimals.specs.Decimals.{trunc_of, add_of, mul_cut_of, mul_even_of, quo_cut_of}
 use Rattle.base_types.specs.Orders.{denom_cmp}
 use Rattle.base_coins.specs.Coins.{Money, IsMoney, amount_of, with_amount, coin_then, all_coins, by_coin, coins_added, coins_taken, smaller_of, whole_coins, fractions, coins_mul_cut, coins_mul_even, coins_quo_cut}
-use Rattle.base_coins.specs.Steps.{◌>>=◌}
-use Rattle.base_coins.proofs.Amounts.{same_ok, bind_ok}
+use Rattle.base_coins.{specs.Steps.{◌>>=◌}, proofs.Amounts.{same_ok, bind_ok}}
 use Rattle.base_coins.proofs.Order.{Above, Rises, same_name, money-nil, money_from_rises, rises_from_money}
 use Rattle.base_coins.proofs.Parts.{by_is_money, below_is, whole_is_money, fractions_is_money}
 use Rattle.base_coins.proofs.Results.{sum_is_money, taken_is_money, smaller_is_money}

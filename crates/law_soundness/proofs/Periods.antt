@@ -1,36 +1,23 @@
 -- Ending a validator's period: its purse, its periods and the ground stay in order, and what is owed stays the same.
-use Rattle.std.proofs.Common.{◌≡◌, ◌∙◌, ℕ, ◌+◌, ◌*◌, ◌^◌, ◌≤◌, ◌==◌, Bool, true, false, cond, List, [], ◌∷◌, map, Some, None, Option, Ok, refl, sym, ap, subst, arith}
-use Rattle.std.specs.Prelude.{◌-◌, Contains, IfOk, is_some, nat_le, min, unwrap_or}
-use Rattle.std.specs.BTreeMap.{is_at}
-use Rattle.std.specs.List.{AllByRecursion}
+use Rattle.std.proofs.Common.{◌≡◌, ◌∙◌, ℕ, ◌+◌, ◌*◌, ◌^◌, ◌≤◌, ◌==◌, Bool, true, false, cond, List, [], ◌∷◌, map, Some, None, Option, Ok, refl, sym, ap, subst, arith, ◌-◌, Contains, IfOk, is_some, nat_le, min, unwrap_or}
+use Rattle.std.specs.{BTreeMap.is_at, List.{AllByRecursion, Sorted.IsStrictlySortedBy}, Map.keys_of}
 use Rattle.std.proofs.lemmas.Bool.Decides.{nat_tests}
 use Rattle.std.proofs.lemmas.List.Elements.{All-contains_itself, All-head, Contains-append_right}
 use Rattle.base_types.specs.Orders.{addr_cmp}
-use Rattle.base_roles.specs.declared.entities.Purse.{Purse}
-use Rattle.base_roles.specs.declared.entities.SlashEvent.{SlashEvent}
-use Rattle.base_roles.specs.declared.entities.StartingInfo.{StartingInfo}
-use Rattle.base_roles.specs.declared.entities.Validator.{Validator}
-use Rattle.base_roles.specs.Entries.{at, with}
-use Rattle.base_roles.specs.Owing.{Lists}
-use Rattle.base_roles.specs.Flow.{◌>>=◌}
-use Rattle.std.specs.List.Sorted.{IsStrictlySortedBy}
-use Rattle.std.specs.Map.{keys_of}
-use Rattle.base_coins.proofs.Amounts.{amount-added, amount-all}
-use Rattle.base_coins.proofs.Order.{rises_from_money}
+use Rattle.base_roles.specs.declared.entities.{Purse.Purse, SlashEvent.SlashEvent, StartingInfo.StartingInfo}
+use Rattle.base_roles.specs.{declared.entities.Validator.Validator, Entries.{at, with}, Owing.Lists, Flow.{◌>>=◌}}
+use Rattle.base_roles.specs.Items.{no_purse}
+use Rattle.base_coins.proofs.{Amounts.{amount-added, amount-all}, Order.rises_from_money}
 use Rattle.base_coins.specs.Coins.{Money, amount_of, coins_added, coins_quo_cut, coins_taken}
 use Rattle.base_decimals.specs.Decimals.{period_over}
-use Rattle.base_roles.specs.Items.{no_purse}
 use Rattle.law_soundness.proofs.Lists.{all_put, weaker}
 use Rattle.law_soundness.proofs.Names.{IsKnown, known_added, known_none, known_quo_cut, known_smaller, known_taken}
 use Rattle.law_soundness.proofs.Points.{EventFits, PeriodsFit, PurseFits, SharedFits, Stands, StartFits}
 use Rattle.law_soundness.proofs.Purses.{HasJoined, PursesFit, has_joined, owed_of, own_purse, purse_put, there_still}
 use Rattle.law_soundness.proofs.Steps.{on_then}
-use Rattle.rule_modules.proofs.GoingLemmas.{on_bind, on_stop}
-use Rattle.rule_modules.proofs.TotalLemmas.{total, total_put}
-use Rattle.rule_modules.proofs.EntryLemmas.{ascend-put, at-put}
-use Rattle.rule_modules.proofs.OrderLemmas.{addr_total, same_is}
-use Rattle.rule_modules.proofs.SoundLemmas.{exact_addr}
-use Rattle.rule_modules.specs.Distribution.{Shared, current_taken}
+use Rattle.rule_modules.proofs.{GoingLemmas.{on_bind, on_stop}, TotalLemmas.{total, total_put}}
+use Rattle.rule_modules.proofs.{EntryLemmas.{ascend-put, at-put}, OrderLemmas.{addr_total, same_is}}
+use Rattle.rule_modules.{proofs.SoundLemmas.exact_addr, specs.Distribution.{Shared, current_taken}}
 use Rattle.rule_modules.specs.Periods.{Periods, period_ended, ratio_at, with_periods}
 use Rattle.rule_modules.specs.Purses.{Purses, current_emptied, current_lost, current_pooled, pool_joined, purse_of, with_purse}
 

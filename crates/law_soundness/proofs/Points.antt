@@ -1,47 +1,31 @@
 -- Sound states, said of each record, with the denominations that they name apart.
-use Rattle.std.proofs.Common.{◌≡◌, ◌∙◌, ℕ, zero, suc, ◌+◌, ◌^◌, ◌<◌, ◌≤◌, ◌==◌, Bool, true, false, cond, List, [], ◌∷◌, ◌++◌, length, map, Some, refl, sym, ap, subst, arith, inl, inr}
-use Rattle.std.specs.Prelude.{◌-◌, ◌⊎◌, All, Contains, filter, IsSome}
-use Rattle.std.specs.List.{AllByRecursion}
-use Rattle.std.specs.List.Sorted.{IsStrictlySortedBy}
-use Rattle.std.specs.Map.{keys_of, values_of}
+use Rattle.std.proofs.Common.{◌≡◌, ◌∙◌, ℕ, zero, suc, ◌+◌, ◌^◌, ◌<◌, ◌≤◌, ◌==◌, Bool, true, false, cond, List, [], ◌∷◌, ◌++◌, length, map, Some, refl, sym, ap, subst, arith, inl, inr, ◌-◌, ◌⊎◌, All, Contains, filter, IsSome}
+use Rattle.std.specs.{List.{AllByRecursion, Sorted.IsStrictlySortedBy}, Map.{keys_of, values_of}}
 use Rattle.std.proofs.lemmas.Bool.Decides.{nat_tests}
 use Rattle.std.proofs.lemmas.List.Elements.{All-append, All-from_recursion, recursion_from_All, All-contains, All-contains_itself}
-use Rattle.base_types.specs.declared.account.Account.{Account}
+use Rattle.base_types.specs.{declared.account.Account.Account, Orders.addr_cmp}
 use Rattle.base_types.specs.declared.account.Account.TheVariants as account
 use Rattle.base_types.specs.declared.account.Module.TheVariants as holder
-use Rattle.base_types.specs.Orders.{addr_cmp}
 use Rattle.base_coins.specs.Coins.{Money, IsMoney, amount_of}
-use Rattle.base_roles.specs.declared.entities.Purse.{Purse}
-use Rattle.base_roles.specs.declared.entities.SlashEvent.{SlashEvent}
-use Rattle.base_roles.specs.declared.entities.StartingInfo.{StartingInfo}
-use Rattle.base_roles.specs.declared.entities.UnbondingEntry.{UnbondingEntry}
-use Rattle.base_roles.specs.Entries.{at}
-use Rattle.base_roles.specs.Ground.{IsInOrder, SameMoment}
-use Rattle.base_roles.proofs.MomentLemmas.{same_moment}
-use Rattle.base_roles.specs.Holdings.{balance_of, coins_of, IsBacked}
-use Rattle.base_roles.specs.Owing.{Lists, HoldsOwed}
-use Rattle.base_roles.specs.Orders.{pair_cmp, same_addr}
-use Rattle.base_roles.specs.Staked.{Staked, lists_of, bonded_tokens, other_tokens, is_unbonded}
-use Rattle.base_roles.specs.StakeChanges.{of_bond}
-use Rattle.base_roles.specs.World.{View, World}
-use Rattle.base_roles.proofs.HoldingLemmas.{balance-most}
-use Rattle.rule_modules.specs.Amounts.{bond_coins, count_where}
-use Rattle.rule_modules.specs.Chain.{Hooks, State, staked_in}
-use Rattle.rule_modules.specs.Distribution.{Shared}
+use Rattle.base_roles.specs.declared.entities.{Purse.Purse, SlashEvent.SlashEvent, StartingInfo.StartingInfo}
+use Rattle.base_roles.specs.{declared.entities.UnbondingEntry.UnbondingEntry, Entries.at}
+use Rattle.base_roles.specs.{Ground.{IsInOrder, SameMoment}, Holdings.{balance_of, coins_of, IsBacked}}
+use Rattle.base_roles.specs.{Owing.{Lists, HoldsOwed}, Orders.{pair_cmp, same_addr}}
+use Rattle.base_roles.specs.{Staked.{Staked, lists_of, bonded_tokens, other_tokens, is_unbonded}, StakeChanges.of_bond}
+use Rattle.base_roles.specs.{World.{View, World}, declared.entities.Validator.Validator}
+use Rattle.base_roles.proofs.{MomentLemmas.same_moment, HoldingLemmas.balance-most}
+use Rattle.rule_modules.specs.{Amounts.{bond_coins, count_where}, Chain.{Hooks, State, staked_in}, Distribution.Shared}
 use Rattle.rule_modules.specs.Owed.{owed_from_distribution, entry_balances}
 use Rattle.rule_modules.specs.Periods.{Periods, Rewards, ratio_at, starts_of}
 use Rattle.rule_modules.specs.Sound.{IsSound, StandsFor, PurseIsSound, PeriodsAreSound, RewardsAreSound, StartIsSound, EventIsSound, AreFalling, GrowWithHeight, WindowIsSound, UnbondingsAreSound, RedelegationsAreSound, names_in, names_of_purses, names_of_ratios, names_of_periods}
-use Rattle.rule_modules.proofs.EntryLemmas.{from_all, to_all}
+use Rattle.rule_modules.{specs.Window.{Window, signing_of}, proofs.EntryLemmas.{from_all, to_all}}
 use Rattle.rule_modules.proofs.OrderLemmas.{addr_total, same_is, same_itself, same_back}
 use Rattle.rule_modules.proofs.SoundLemmas.{IsSoundAt, to_points, from_points, exact_addr}
-use Rattle.rule_machine.proofs.PurseLemmas.{coins-amount, coins-one, one-amount}
-use Rattle.law_soundness.proofs.Bank.{AreHeld}
-use Rattle.law_soundness.proofs.Burns.{total_in}
-use Rattle.law_soundness.proofs.Lists.{all_left, all_right, weaker, mapped_all, from_mapped, from_filtered, found_by, counts_itself}
 use Rattle.rule_modules.proofs.OperatorLemmas.{filtered_all}
+use Rattle.rule_machine.proofs.PurseLemmas.{coins-amount, coins-one, one-amount}
+use Rattle.law_soundness.proofs.{Bank.AreHeld, Burns.total_in}
+use Rattle.law_soundness.proofs.Lists.{all_left, all_right, weaker, mapped_all, from_mapped, from_filtered, found_by, counts_itself}
 use Rattle.law_soundness.proofs.Names.{AreNamed, IsKnown}
-use Rattle.rule_modules.specs.Window.{Window, signing_of}
-use Rattle.base_roles.specs.declared.entities.Validator.{Validator}
 
 -- a validator that is bonded or unbonding has a signing record
 abbrev pub IsRecorded : Window → List ℕ × Validator → Type 0

@@ -1,46 +1,33 @@
 -- Funding and spending from the pool, and withdrawing commission, keep a state sound.
-use Rattle.std.proofs.Common.{div-add-mod', ◌≡◌, ℕ, ◌+◌, ◌*◌, ◌^◌, ◌≤◌, Bool, true, false, cond, List, [], ◌∷◌, Some, refl, ap, arith, ◌++◌, div-add-mod'}
-use Rattle.std.specs.Prelude.{◌-◌, ◌/◌, min, not, IfOk, is_some, nat_lt}
-use Rattle.std.specs.List.{AllByRecursion, position_from}
-use Rattle.std.proofs.lemmas.Bool.Decides.{nat_tests}
-use Rattle.base_types.specs.declared.account.Account.{Account}
+use Rattle.std.proofs.Common.{div-add-mod', ◌≡◌, ℕ, ◌+◌, ◌*◌, ◌^◌, ◌≤◌, Bool, true, false, cond, List, [], ◌∷◌, Some, refl, ap, arith, ◌++◌, ◌-◌, ◌/◌, min, not, IfOk, is_some, nat_lt}
+use Rattle.std.{specs.List.{AllByRecursion, position_from}, proofs.lemmas.Bool.Decides.nat_tests}
+use Rattle.base_types.specs.{declared.account.Account.Account, Orders.addr_cmp}
 use Rattle.base_types.specs.declared.account.Account.TheVariants as account
 use Rattle.base_types.specs.declared.account.Module.TheVariants as holder
-use Rattle.base_types.specs.Orders.{addr_cmp}
 use Rattle.base_roles.specs.declared.entities.Purse.{Purse}
-use Rattle.base_roles.specs.declared.facts.Fact.TheVariants as fact
 use Rattle.base_roles.specs.declared.refusal.Refusal.TheVariants.{InsufficientFunds, NonPositive, NoCommission, PoolTooSmall, NotAuthority, Overflow}
-use Rattle.base_roles.specs.World.{View, sent, noted}
-use Rattle.base_coins.proofs.Order.{rises_from_money}
+use Rattle.base_roles.specs.{World.{View, sent, noted}, Entries.at, Holdings.{balance_of, is_short}}
+use Rattle.base_roles.specs.{Owing.{HoldsOwed, Lists}, Orders.same_addr, Staked.lists_of}
+use Rattle.base_roles.proofs.{AmountLemmas.moves_by_amounts, HoldingLemmas.balance-moved_elsewhere}
+use Rattle.base_roles.specs.declared.facts.Fact.TheVariants as fact
+use Rattle.base_coins.proofs.{Order.rises_from_money, Amounts.amount-all}
 use Rattle.base_coins.specs.Coins.{IsMoney, Money, amount_of, coins_taken, whole_coins}
 use Rattle.base_decimals.specs.Decimals.{trunc_of}
-use Rattle.base_roles.proofs.AmountLemmas.{moves_by_amounts}
-use Rattle.base_roles.proofs.HoldingLemmas.{balance-moved_elsewhere}
-use Rattle.base_roles.specs.Entries.{at}
-use Rattle.base_roles.specs.Holdings.{balance_of, is_short}
-use Rattle.base_roles.specs.Owing.{HoldsOwed, Lists}
-use Rattle.base_roles.specs.Orders.{same_addr}
-use Rattle.base_roles.specs.Staked.{lists_of}
-use Rattle.law_soundness.proofs.Burns.{quiet_behind, quiet_pooled}
-use Rattle.law_soundness.proofs.Bank.{each_within, known_enough}
+use Rattle.law_soundness.proofs.{Burns.{quiet_behind, quiet_pooled}, Bank.{each_within, known_enough}}
 use Rattle.law_soundness.proofs.Moves.{IsOther, Leaves, ground_sent, keeps, state_left, user_is_other, ground_told}
 use Rattle.law_soundness.proofs.Names.{IsKnown, known_smaller, known_taken, known_whole, units_known}
-use Rattle.rule_modules.proofs.PartLemmas.{amount_in_units}
 use Rattle.law_soundness.proofs.Points.{StateFits, GroundFits, PurseFits, SharedFits, StateLeft}
 use Rattle.law_soundness.proofs.Purses.{HasJoined, amounts_within, are_paid, has_joined, owed_of, own_purse, pool_fits, purse_put, shared_purses}
 use Rattle.law_soundness.proofs.Steps.{on_lifted_then, on_then}
-use Rattle.rule_modules.proofs.GoingLemmas.{on_found, on_stop}
-use Rattle.rule_modules.proofs.TotalLemmas.{total, total_put}
 use Rattle.law_soundness.specs.StepLaws.{CommissionsKeepSoundness, FundingKeepsSoundness, SpendingKeepsSoundness}
-use Rattle.rule_modules.proofs.OrderLemmas.{addr_total}
-use Rattle.rule_modules.specs.Amounts.{in_units, is_empty, over_facts}
-use Rattle.rule_modules.specs.Chain.{State, with_shared}
+use Rattle.rule_modules.proofs.{PartLemmas.amount_in_units, GoingLemmas.{on_found, on_stop}}
+use Rattle.rule_modules.proofs.{TotalLemmas.{total, total_put}, OrderLemmas.addr_total}
+use Rattle.rule_modules.specs.{Amounts.{in_units, is_empty, over_facts}, Chain.{State, with_shared}}
 use Rattle.rule_modules.specs.Distribution.{Shared, paid_to, payee_of}
 use Rattle.rule_modules.specs.Effects.{community_pool_spend, fund_community_pool, withdraw_commission}
 use Rattle.rule_modules.specs.Owed.{owed_from_distribution}
 use Rattle.rule_modules.specs.Purses.{Purses, commission_due, commission_paid, is_above_pool, pool_joined, pool_lowered, pooled_told, with_purse}
 use Rattle.rule_modules.specs.Withdrawals.{commission_withdrawn, pool_funded, pool_spent}
-use Rattle.base_coins.proofs.Amounts.{amount-all}
 
 -- the pool has each coin
 none_short : (x y : Money) (k : ℕ) → is_some (position_from (λ c. nat_lt (amount_of x c.0) c.1) k y) ≡ false → AllByRecursion (λ c. c.1 ≤ amount_of x c.0) y

@@ -1,45 +1,29 @@
 -- The slash of a validator, with its entries and the redelegations from it, keeps a state sound.
-use Rattle.std.proofs.Common.{◌≡◌, ◌∙◌, ℕ, ◌+◌, ◌^◌, ◌≤◌, cond, List, [], ◌∷◌, ◌++◌, Some, Result, Ok, refl, sym, ap, subst, arith}
-use Rattle.std.specs.Prelude.{◌-◌, is_some}
+use Rattle.std.proofs.Common.{◌≡◌, ◌∙◌, ℕ, ◌+◌, ◌^◌, ◌≤◌, cond, List, [], ◌∷◌, ◌++◌, Some, Result, Ok, refl, sym, ap, subst, arith, ◌-◌, is_some}
 use Rattle.base_types.specs.Orders.{addr_cmp}
-use Rattle.base_roles.specs.declared.entities.Validator.{Validator}
+use Rattle.base_roles.specs.{declared.{entities.Validator.Validator, params.Ctx.Ctx}, Owing.Lists, Log.Log}
+use Rattle.base_roles.specs.{Flow.{◌>>=◌}, World.{View, World, burnt, noted, over_view, over_mine}}
+use Rattle.base_roles.specs.Staked.{Staked, bonded_tokens, is_bonded, lists_of, other_tokens, delegation, validator_at, put_validator}
+use Rattle.base_roles.specs.{StakeChanges.of_bond, declared.facts.Fact.Fact}
 use Rattle.base_roles.specs.declared.facts.Fact.TheVariants as fact
-use Rattle.base_roles.specs.declared.params.Ctx.{Ctx}
-use Rattle.base_roles.specs.Owing.{Lists}
-use Rattle.base_roles.specs.Log.{Log}
-use Rattle.base_roles.specs.Flow.{◌>>=◌}
-use Rattle.base_roles.specs.World.{View, World, burnt, noted, over_view, over_mine}
-use Rattle.rule_modules.specs.Slashing.{slash_fraction}
-use Rattle.rule_modules.specs.Unbonding.{unbonded_shares}
+use Rattle.rule_modules.specs.{Slashing.slash_fraction, Unbonding.unbonded_shares}
+use Rattle.rule_modules.specs.Chain.{Hooks, Stakes, chain_told, staked_in, with_window, with_staked}
+use Rattle.rule_modules.specs.{Distribution.{Shared, slash_recorded, ended}, Owed.entry_balances}
+use Rattle.rule_modules.specs.{Sound.{RedelegationsAreSound, UnbondingsAreSound}, Stakes.pool_of}
+use Rattle.rule_modules.{specs.{Unbondings.UnbondingLists, Window.Window}, proofs.SoundLemmas.{exact_addr, sound-put}}
+use Rattle.rule_modules.proofs.TokenLemmas.{tokens-put}
+use Rattle.rule_modules.proofs.SlashParts.{GoesThrough, beside_entries, entries_lost, following_lost, target_lost, burnt_with, event_put, poorer, slash_noted, OwnTarget, own_target}
+use Rattle.rule_modules.proofs.BesideLemmas.{raised}
 use Rattle.std.specs.BTreeMap.{is_at}
 use Rattle.base_decimals.specs.declared.over.Over.{Over}
-use Rattle.base_roles.specs.Staked.{Staked, bonded_tokens, is_bonded, lists_of, other_tokens, delegation, validator_at, put_validator}
-use Rattle.base_roles.specs.StakeChanges.{of_bond}
-use Rattle.base_roles.specs.declared.facts.Fact.{Fact}
-use Rattle.law_soundness.proofs.Burns.{IsQuiet, quiet_behind}
-use Rattle.law_soundness.proofs.Delegating.{others}
-use Rattle.law_soundness.proofs.Entries.{from_pairs, to_pairs, PairsFit}
-use Rattle.law_soundness.proofs.Hooking.{stake_hooks}
-use Rattle.law_soundness.proofs.Lists.{all_put, looked_up}
-use Rattle.law_soundness.proofs.Moves.{HooksFit, Leaves, stake_left, ground_told}
-use Rattle.law_soundness.proofs.Points.{IsRecorded, StakeFits, StateFits}
-use Rattle.law_soundness.proofs.Purses.{there_still}
+use Rattle.law_soundness.proofs.{Burns.{IsQuiet, quiet_behind}, Delegating.others}
+use Rattle.law_soundness.proofs.{Entries.{from_pairs, to_pairs, PairsFit}, Hooking.stake_hooks}
+use Rattle.law_soundness.proofs.{Lists.{all_put, looked_up}, Moves.{HooksFit, Leaves, stake_left, ground_told}}
+use Rattle.law_soundness.proofs.{Points.{IsRecorded, StakeFits, StateFits}, Purses.there_still}
 use Rattle.law_soundness.proofs.Slashing.{entries_fit, entries_fit_pairs, slash_leaves, stake_burnt, followed_fit, followed_pairs}
 use Rattle.law_soundness.proofs.Standing.{own_place, stake_relisted}
-use Rattle.law_soundness.proofs.Unbonding.{HasUnbonded, less_bonded, less_other, unbonded_fits}
-use Rattle.rule_modules.proofs.SoundLemmas.{exact_addr, sound-put}
-use Rattle.rule_modules.proofs.TokenLemmas.{tokens-put}
-use Rattle.rule_modules.specs.Chain.{Hooks, Stakes, chain_told, staked_in, with_window, with_staked}
-use Rattle.rule_modules.specs.Distribution.{Shared, slash_recorded, ended}
-use Rattle.rule_modules.specs.Owed.{entry_balances}
-use Rattle.rule_modules.specs.Sound.{RedelegationsAreSound, UnbondingsAreSound}
-use Rattle.rule_modules.specs.Stakes.{pool_of}
-use Rattle.rule_modules.specs.Unbondings.{UnbondingLists}
-use Rattle.rule_modules.specs.Window.{Window}
+use Rattle.law_soundness.proofs.{Unbonding.{HasUnbonded, less_bonded, less_other, unbonded_fits}, Steps.from_if}
 use Rattle.base_shares.specs.Shares.{amount_out}
-use Rattle.rule_modules.proofs.SlashParts.{GoesThrough, beside_entries, entries_lost, following_lost, target_lost, burnt_with, event_put, poorer, slash_noted, OwnTarget, own_target}
-use Rattle.law_soundness.proofs.Steps.{from_if}
-use Rattle.rule_modules.proofs.BesideLemmas.{raised}
 
 module _ (P : List ℕ → Type 0) (T : List ℕ → ℕ) (i : Window) where
   -- ---- a validator's own slash

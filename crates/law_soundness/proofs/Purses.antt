@@ -1,37 +1,22 @@
 -- Purses, the pool and the distribution account, as coins join the pool, purses change and coins are paid.
-use Rattle.std.proofs.Common.{◌≡◌, ◌∙◌, ℕ, ◌+◌, ◌*◌, ◌^◌, ◌≤◌, Bool, true, false, cond, List, [], ◌∷◌, Some, None, Option, refl, sym, ap, subst, arith}
-use Rattle.std.specs.Prelude.{◌||◌, IfOk, is_some, nat_lt, unwrap_or}
-use Rattle.std.specs.BTreeMap.{is_at}
-use Rattle.std.specs.List.{AllByRecursion}
-use Rattle.std.specs.List.Sorted.{IsStrictlySortedBy}
-use Rattle.std.specs.Map.{keys_of, lookup}
+use Rattle.std.proofs.Common.{◌≡◌, ◌∙◌, ℕ, ◌+◌, ◌*◌, ◌^◌, ◌≤◌, Bool, true, false, cond, List, [], ◌∷◌, Some, None, Option, refl, sym, ap, subst, arith, ◌||◌, IfOk, is_some, nat_lt, unwrap_or}
+use Rattle.std.specs.{BTreeMap.is_at, List.{AllByRecursion, Sorted.IsStrictlySortedBy}, Map.{keys_of, lookup}}
 use Rattle.std.proofs.lemmas.Bool.Decides.{nat_tests}
-use Rattle.base_types.specs.declared.account.Account.{Account}
+use Rattle.base_types.specs.{declared.account.Account.Account, Orders.{addr_cmp, account_cmp, denom_cmp}}
 use Rattle.base_types.specs.declared.account.Account.TheVariants as account
 use Rattle.base_types.specs.declared.account.Module.TheVariants as holder
-use Rattle.base_types.specs.Orders.{addr_cmp, account_cmp, denom_cmp}
 use Rattle.base_coins.specs.Coins.{Money, IsMoney, amount_of, coins_added}
 use Rattle.base_coins.proofs.Amounts.{amount-added, itself, is_equal}
 use Rattle.base_coins.proofs.Order.{Above, Rises, same_name, rises_from_money, amount-above, amount-first}
-use Rattle.base_roles.specs.declared.entities.Purse.{Purse}
-use Rattle.base_roles.specs.Entries.{at, with}
-use Rattle.base_roles.specs.Holdings.{Holdings, balance_of, is_short}
-use Rattle.base_roles.specs.Owing.{Lists, HoldsOwed}
-use Rattle.base_roles.specs.World.{View, sent}
-use Rattle.base_roles.proofs.AmountLemmas.{moves_by_amounts}
-use Rattle.base_roles.proofs.HoldingLemmas.{balance-moved_elsewhere}
-use Rattle.rule_modules.proofs.PartLemmas.{rest_within}
-use Rattle.rule_modules.specs.Distribution.{Shared}
+use Rattle.base_roles.specs.{declared.entities.Purse.Purse, Entries.{at, with}}
+use Rattle.base_roles.specs.{Holdings.{Holdings, balance_of, is_short}, Owing.{Lists, HoldsOwed}, World.{View, sent}}
+use Rattle.base_roles.proofs.{AmountLemmas.moves_by_amounts, HoldingLemmas.balance-moved_elsewhere}
+use Rattle.rule_modules.proofs.{PartLemmas.rest_within, EntryLemmas.{at-put, ascend-put}}
+use Rattle.rule_modules.proofs.{OrderLemmas.{addr_total, equal}, SoundLemmas.exact_addr, GoingLemmas.on_bind}
+use Rattle.rule_modules.{proofs.TotalLemmas.total, specs.Distribution.Shared}
 use Rattle.rule_modules.specs.Purses.{Purses, with_purse, pool_joined}
-use Rattle.rule_modules.proofs.EntryLemmas.{at-put, ascend-put}
-use Rattle.rule_modules.proofs.OrderLemmas.{addr_total, equal}
-use Rattle.rule_modules.proofs.SoundLemmas.{exact_addr}
-use Rattle.law_soundness.proofs.Lists.{all_put, looked_up}
-use Rattle.law_soundness.proofs.Moves.{IsOther, ground_sent}
-use Rattle.law_soundness.proofs.Names.{IsKnown, known_added}
+use Rattle.law_soundness.proofs.{Lists.{all_put, looked_up}, Moves.{IsOther, ground_sent}, Names.{IsKnown, known_added}}
 use Rattle.law_soundness.proofs.Points.{PurseFits, SharedFits, GroundFits}
-use Rattle.rule_modules.proofs.GoingLemmas.{on_bind}
-use Rattle.rule_modules.proofs.TotalLemmas.{total}
 
 -- ---- look-ups
 

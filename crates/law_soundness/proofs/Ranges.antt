@@ -1,26 +1,16 @@
 -- How large amounts can be in a sound state: no more than the accounts that hold them can have.
-use Rattle.std.proofs.Common.{◌≡◌, ℕ, ◌+◌, ◌*◌, ◌^◌, ◌≤◌, List, Option, Some, None, refl, arith}
-use Rattle.std.specs.Prelude.{Contains, unwrap_or}
+use Rattle.std.proofs.Common.{◌≡◌, ℕ, ◌+◌, ◌*◌, ◌^◌, ◌≤◌, List, Option, Some, None, refl, arith, Contains, unwrap_or}
 use Rattle.base_types.specs.declared.account.Account.TheVariants as account
 use Rattle.base_types.specs.declared.account.Module.TheVariants as holder
 use Rattle.base_types.specs.Orders.{addr_cmp}
 use Rattle.base_coins.specs.Coins.{amount_of}
-use Rattle.base_roles.proofs.HoldingLemmas.{balance-most}
-use Rattle.base_roles.specs.declared.entities.Purse.{Purse}
-use Rattle.base_roles.specs.Entries.{at}
-use Rattle.base_roles.specs.Items.{no_purse}
-use Rattle.base_roles.specs.Staked.{bonded_tokens, lists_of}
-use Rattle.law_soundness.proofs.Burns.{total_in}
-use Rattle.law_soundness.proofs.Delegating.{all_bonded, all_other}
-use Rattle.law_soundness.proofs.Points.{StateFits, to_fits}
-use Rattle.law_soundness.proofs.Purses.{owed_of}
-use Rattle.law_soundness.proofs.Starting.{runs_are_sound}
-use Rattle.rule_modules.proofs.TotalLemmas.{total, total_left}
+use Rattle.base_roles.{proofs.HoldingLemmas.balance-most, specs.{declared.entities.Purse.Purse, Entries.at}}
+use Rattle.base_roles.specs.{Items.no_purse, Staked.{bonded_tokens, lists_of}}
+use Rattle.law_soundness.proofs.{Burns.total_in, Delegating.{all_bonded, all_other}, Points.{StateFits, to_fits}}
+use Rattle.law_soundness.proofs.{Purses.owed_of, Starting.runs_are_sound}
 use Rattle.law_soundness.specs.Ranges.{RunsAreInRange, SoundIsInRange}
-use Rattle.rule_modules.proofs.OrderLemmas.{addr_total}
-use Rattle.rule_modules.specs.Chain.{shared_in, staked_in}
-use Rattle.rule_modules.specs.Owed.{entry_balances}
-use Rattle.rule_modules.specs.Purses.{Purses}
+use Rattle.rule_modules.proofs.{TotalLemmas.{total, total_left}, OrderLemmas.addr_total}
+use Rattle.rule_modules.specs.{Chain.{shared_in, staked_in}, Owed.entry_balances, Purses.Purses}
 
 -- what is outstanding for a validator is among all that is owed
 part_within : (p : Purses) (operator d : List ℕ) (most : ℕ) → owed_of p d ≤ most → (r : Option Purse) → at addr_cmp p.purses operator ≡ r → amount_of (unwrap_or r no_purse).outstanding d ≤ most

@@ -1,35 +1,26 @@
 -- Redelegating is refused by the first of its conditions that holds: the hook before the delegation to the target is over in
 -- the same cases before and after the shares have left the source.
-use Rattle.std.proofs.Common.{◌≡◌, ◌∙◌, ℕ, ◌==◌, ◌≤◌, Bool, true, false, List, [], ◌∷◌, length, Option, Some, None, Result, Ok, Err, refl, sym, ap}
-use Rattle.std.specs.Prelude.{Contains, is_none, is_some, nat_le, option_map, unwrap_or, ⊤}
+use Rattle.std.proofs.Common.{◌≡◌, ◌∙◌, ℕ, ◌==◌, ◌≤◌, Bool, true, false, List, [], ◌∷◌, length, Option, Some, None, Result, Ok, Err, refl, sym, ap, Contains, is_none, is_some, nat_le, option_map, unwrap_or}
+use Rattle.std.specs.Prelude.{⊤}
 use Rattle.base_decimals.specs.declared.over.Over.{Over}
 use Rattle.base_shares.specs.Shares.{amount_out, has_invalid_rate, issued_shares, shares_for_amount}
-use Rattle.base_roles.specs.declared.entities.Validator.{Validator}
-use Rattle.base_roles.specs.declared.refusal.Refusal.{Refusal}
+use Rattle.base_roles.specs.declared.{entities.Validator.Validator, refusal.Refusal.Refusal}
 use Rattle.base_roles.specs.declared.refusal.Refusal.TheVariants.{NoDelegation, NoTokens, NoValidator, NonPositive, Overflow, RateInvalid, RedelegationsFull, SelfRedelegation, TinyDelegation, TinyRedelegation, TooManyShares, Transitive, WrongDenom}
-use Rattle.base_roles.specs.Orders.{same_addr}
-use Rattle.base_roles.specs.Staked.{Staked, delegation, lists_of, validator_at}
+use Rattle.base_roles.specs.{Orders.same_addr, Staked.{Staked, delegation, lists_of, validator_at}}
 use Rattle.base_roles.specs.Flow.{◌>>=◌, ◌>>◌, or_stop, stop_if, stopping}
 use Rattle.base_roles.specs.World.{Told, World, call, exceeds, gives, hooked, modifying}
-use Rattle.law_soundness.proofs.Apart.{IsApart, unbonded_apart}
-use Rattle.law_soundness.proofs.Burns.{total_in}
-use Rattle.law_soundness.proofs.Hooking.{stake_hooks}
-use Rattle.law_soundness.proofs.Limits.{hook_reads, limit_alike, limit_before}
-use Rattle.law_soundness.proofs.Points.{StateFits, to_fits}
-use Rattle.law_soundness.proofs.Refused.{given_refused, pool_refused, stop_known}
-use Rattle.law_soundness.proofs.Standing.{own_place}
-use Rattle.law_soundness.proofs.Steps.{from_if}
+use Rattle.law_soundness.proofs.{Apart.{IsApart, unbonded_apart}, Burns.total_in, Hooking.stake_hooks}
+use Rattle.law_soundness.proofs.{Limits.{hook_reads, limit_alike, limit_before}, Points.{StateFits, to_fits}}
+use Rattle.law_soundness.proofs.{Refused.{given_refused, pool_refused, stop_known}, Standing.own_place, Steps.from_if}
 use Rattle.law_soundness.proofs.Unbonding.{HasUnbonded, unbonded_fits}
 use Rattle.law_soundness.proofs.Undelegated.{same_over, to_unbond_refused, unbonded_over}
 use Rattle.law_soundness.specs.StepLaws.{RedelegationsNameConditions}
 use Rattle.rule_modules.proofs.RefusalLemmas.{mapped, stop_step}
 use Rattle.rule_modules.specs.Chain.{Hooks, State, chain_told, staked_in, with_staked}
 use Rattle.rule_modules.specs.Conditions.{after_hook, are_above, first_of, goes_out, is_nothing, issue_over, over_in, when}
-use Rattle.rule_modules.specs.Delegating.{delegated, hook_before, is_wrong, pool, shares_given}
-use Rattle.rule_modules.specs.Owed.{entry_balances}
+use Rattle.rule_modules.specs.{Delegating.{delegated, hook_before, is_wrong, pool, shares_given}, Owed.entry_balances}
 use Rattle.rule_modules.specs.Redelegations.{RedelegationLists, appended, begin_info, is_transitive, redelegated, redelegations_of}
-use Rattle.rule_modules.specs.RefusalOrder.{refused_in}
-use Rattle.rule_modules.specs.Unbonding.{shares_to_unbond, unbonded_shares}
+use Rattle.rule_modules.specs.{RefusalOrder.refused_in, Unbonding.{shares_to_unbond, unbonded_shares}}
 
 -- ---- shares that are given
 

@@ -1,46 +1,29 @@
 -- Redelegating keeps a state sound.
-use Rattle.std.proofs.Common.{◌≡◌, ◌∙◌, ℕ, ◌+◌, ◌^◌, ◌<◌, ◌≤◌, ◌==◌, Bool, true, false, cond, List, [], ◌∷◌, ◌++◌, length, Some, None, Option, refl, sym, ap, subst, arith}
-use Rattle.std.specs.Prelude.{◌||◌, All, IfOk, is_none, nat_le, unwrap_or, if◌then◌else◌}
-use Rattle.std.specs.BTreeMap.{is_at}
-use Rattle.std.specs.Cmp.{IsTotalOrder, on_total, then_total}
-use Rattle.std.specs.declared.cmp.Ordering.TheVariants.{Equal}
-use Rattle.std.proofs.lemmas.Bool.Decides.{nat_tests}
+use Rattle.std.proofs.Common.{◌≡◌, ◌∙◌, ℕ, ◌+◌, ◌^◌, ◌<◌, ◌≤◌, ◌==◌, Bool, true, false, cond, List, [], ◌∷◌, ◌++◌, length, Some, None, Option, refl, sym, ap, subst, arith, ◌||◌, All, IfOk, is_none, nat_le, unwrap_or, if◌then◌else◌, Equal}
+use Rattle.std.specs.{BTreeMap.is_at, Cmp.{IsTotalOrder, on_total, then_total}, List.AllByRecursion}
+use Rattle.std.{specs.{List.Sorted.IsStrictlySortedBy, Map.keys_of}, proofs.lemmas.Bool.Decides.nat_tests}
 use Rattle.std.proofs.lemmas.Map.Lookups.{exact_bytes, exact_pairs}
 use Rattle.std.proofs.lemmas.List.Elements.{All-from_recursion, recursion_from_All}
 use Rattle.base_coins.specs.declared.coin.Coin.{Coin}
-use Rattle.base_roles.specs.declared.entities.RedelegationEntry.{RedelegationEntry}
-use Rattle.base_roles.specs.declared.entities.Validator.{Validator}
+use Rattle.base_roles.specs.declared.entities.{RedelegationEntry.RedelegationEntry, Validator.Validator}
 use Rattle.base_roles.specs.declared.params.Ctx.{Ctx}
 use Rattle.base_roles.specs.declared.refusal.Refusal.TheVariants.{WrongDenom, NonPositive, NoValidator, SelfRedelegation, Transitive, RedelegationsFull, TinyRedelegation, Overflow}
-use Rattle.base_roles.specs.World.{World}
-use Rattle.rule_modules.specs.Delegating.{pool, delegated, is_wrong, shares_given}
-use Rattle.std.specs.List.{AllByRecursion}
-use Rattle.std.specs.List.Sorted.{IsStrictlySortedBy}
-use Rattle.std.specs.Map.{keys_of}
-use Rattle.base_roles.specs.Entries.{at, number_at}
-use Rattle.base_roles.specs.Orders.{pair_cmp, same_addr, triple_cmp}
+use Rattle.base_roles.specs.{World.World, Entries.{at, number_at}, Orders.{pair_cmp, same_addr, triple_cmp}}
 use Rattle.base_roles.specs.Staked.{Staked, is_bonded, lists_of, delegation, validator_at}
-use Rattle.law_soundness.proofs.Delegating.{delegated_fits}
-use Rattle.law_soundness.proofs.Leaving.{unbonding_within}
-use Rattle.law_soundness.proofs.Lists.{all_put, joined_all, looked_up, weaker}
-use Rattle.law_soundness.proofs.Moves.{keeps}
-use Rattle.law_soundness.proofs.Points.{StakeFits, StateFits, StateLeft, WholeEntries}
-use Rattle.law_soundness.proofs.Standing.{own_place}
-use Rattle.law_soundness.proofs.Steps.{on_lifted_then, on_then}
-use Rattle.rule_modules.proofs.GoingLemmas.{on_found, on_next, on_stop}
-use Rattle.law_soundness.proofs.Unbonding.{HasUnbonded, out_within, unbonded_fits}
-use Rattle.law_soundness.specs.StepLaws.{RedelegatingKeepsSoundness}
-use Rattle.rule_modules.proofs.EntryLemmas.{ascend-put}
-use Rattle.rule_modules.proofs.OrderLemmas.{addr_total}
-use Rattle.rule_modules.proofs.SoundLemmas.{exact_pair, held_within, shares_at}
-use Rattle.rule_modules.specs.Chain.{Hooks, State, chain_told, staked_in}
-use Rattle.rule_modules.specs.Effects.{begin_redelegate}
+use Rattle.rule_modules.specs.Delegating.{pool, delegated, is_wrong, shares_given}
+use Rattle.rule_modules.specs.{Chain.{Hooks, State, chain_told, staked_in}, Effects.begin_redelegate}
 use Rattle.rule_modules.specs.Owed.{entry_balances}
 use Rattle.rule_modules.specs.Redelegations.{RedelegationLists, appended, begin_info, is_transitive, redelegated, redelegations_of}
 use Rattle.rule_modules.specs.Sound.{RedelegationIsSound, RedelegationsAreSound, UnbondingsAreSound, ValidatorIsSound}
-use Rattle.rule_modules.specs.Stakes.{is_unbonding}
-use Rattle.rule_modules.specs.Unbonding.{shares_to_unbond, unbonded_shares}
-use Rattle.rule_modules.specs.Unbondings.{completion}
+use Rattle.rule_modules.specs.{Stakes.is_unbonding, Unbonding.{shares_to_unbond, unbonded_shares}}
+use Rattle.rule_modules.{specs.Unbondings.completion, proofs.GoingLemmas.{on_found, on_next, on_stop}}
+use Rattle.rule_modules.proofs.{EntryLemmas.ascend-put, OrderLemmas.addr_total}
+use Rattle.rule_modules.proofs.SoundLemmas.{exact_pair, held_within, shares_at}
+use Rattle.law_soundness.proofs.{Delegating.delegated_fits, Leaving.unbonding_within}
+use Rattle.law_soundness.proofs.{Lists.{all_put, joined_all, looked_up, weaker}, Moves.keeps}
+use Rattle.law_soundness.proofs.{Points.{StakeFits, StateFits, StateLeft, WholeEntries}, Standing.own_place}
+use Rattle.law_soundness.proofs.{Steps.{on_lifted_then, on_then}, Unbonding.{HasUnbonded, out_within, unbonded_fits}}
+use Rattle.law_soundness.specs.StepLaws.{RedelegatingKeepsSoundness}
 use Rattle.base_shares.specs.Shares.{amount_out}
 use Rattle.base_types.specs.Orders.{addr_cmp}
 

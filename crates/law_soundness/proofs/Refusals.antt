@@ -1,39 +1,25 @@
 -- Each message of a run that is carried out met a sound state of which none of its conditions held, and each that is refused is by
 -- the first of its conditions that held.
-use Rattle.std.proofs.Common.{◌≡◌, ◌∙◌, ℕ, suc, ◌+◌, ◌^◌, ◌<◌, ◌≤◌, ◌==◌, List, [], ◌∷◌, ◌++◌, length, Option, Some, None, Ok, refl, sym, ap, subst, arith}
-use Rattle.std.specs.Prelude.{All, Contains, ⊤}
-use Rattle.std.proofs.lemmas.List.Elements.{All-head, All-tail}
-use Rattle.base_roles.specs.declared.facts.Fact.{Fact}
-use Rattle.base_roles.specs.declared.params.Ctx.{Ctx}
-use Rattle.base_roles.specs.declared.refusal.Refusal.{Refusal}
+use Rattle.std.proofs.Common.{◌≡◌, ◌∙◌, ℕ, suc, ◌+◌, ◌^◌, ◌<◌, ◌≤◌, ◌==◌, List, [], ◌∷◌, ◌++◌, length, Option, Some, None, Ok, refl, sym, ap, subst, arith, All, Contains}
+use Rattle.std.{specs.Prelude.⊤, proofs.lemmas.List.Elements.{All-head, All-tail}}
+use Rattle.base_roles.specs.declared.{facts.Fact.Fact, params.Ctx.Ctx, refusal.Refusal.Refusal}
 use Rattle.base_roles.specs.declared.refusal.Refusal.TheVariants.{NonPositive, NoValidator, NoDelegation, NoTokens, TooManyShares, WrongDenom, UnbondingsFull}
-use Rattle.base_messages.specs.declared.block.Block.{Block}
-use Rattle.base_messages.specs.declared.block.Tx.{Tx}
-use Rattle.base_messages.specs.declared.message.Msg.{Msg}
-use Rattle.base_messages.specs.declared.report.Outcome.{Outcome}
+use Rattle.base_messages.specs.declared.{block.{Block.Block, Tx.Tx}, message.Msg.Msg, report.Outcome.Outcome}
 use Rattle.base_messages.specs.declared.report.Outcome.TheVariants.{Accepted, FeeUnpaid, Refused}
-use Rattle.rule_machine.proofs.EndLemmas.{transactions_end_by}
-use Rattle.rule_machine.specs.GenesisState.{without_facts}
-use Rattle.rule_machine.specs.Machine.{block_checked, step, tx_applied}
-use Rattle.rule_machine.specs.Messages.{effect_of}
+use Rattle.rule_machine.{proofs.EndLemmas.transactions_end_by, specs.GenesisState.without_facts}
+use Rattle.rule_machine.specs.{Machine.{block_checked, step, tx_applied}, Messages.effect_of}
 use Rattle.rule_machine.specs.Promises.{AreCarriedOut, EndsSo, IsStoppedAt, MessageHasCoins, TxHasCoins}
-use Rattle.law_soundness.proofs.Burns.{total_in}
-use Rattle.law_soundness.proofs.Lists.{all_left, all_right}
-use Rattle.law_soundness.proofs.Moves.{fee_fits}
+use Rattle.law_soundness.proofs.{Burns.total_in, Lists.{all_left, all_right}, Moves.fee_fits}
 use Rattle.law_soundness.proofs.Named.{messages_name_conditions}
 use Rattle.law_soundness.proofs.Points.{MessageLeft, StateFits, StateLeft, at_moment, from_fits, to_fits}
 use Rattle.law_soundness.proofs.Running.{HasBegun, HaveCoins, StepFits, begun_fits, block_fits, first_ok}
-use Rattle.law_soundness.proofs.Starting.{room, started_well}
-use Rattle.law_soundness.proofs.Steps.{and_also, from_if}
+use Rattle.law_soundness.proofs.{Starting.{room, started_well}, Steps.{and_also, from_if}}
 use Rattle.law_soundness.proofs.Transactions.{WholeFits, fits_on, message_fits, tx_fits, whole_without}
 use Rattle.law_soundness.specs.Kept.{AreAllowed, FullListsTakeNoMore, InBlocks, InTurn, IsAllowed, IsJudged, IsNamedAt, RefusalsAreNamed, TxIsJudged, begun_by}
 use Rattle.law_soundness.specs.StepLaws.{RunsNameConditions}
 use Rattle.rule_modules.specs.Chain.{State}
 use Rattle.rule_modules.specs.Conditions.{when, first_of, lacks_validator, lacks_delegation, has_no_tokens, asks_too_much, has_most_unbondings, reward_over}
-use Rattle.rule_modules.specs.Delegating.{is_wrong}
-use Rattle.rule_modules.specs.Effects.{fee_paid}
-use Rattle.rule_modules.specs.Laws.{next_block}
-use Rattle.rule_modules.specs.RefusalOrder.{refused_in}
+use Rattle.rule_modules.specs.{Delegating.is_wrong, Effects.fee_paid, Laws.next_block, RefusalOrder.refused_in}
 use Rattle.rule_modules.specs.Sound.{IsSound}
 
 module _ (some : List (List ℕ)) (few : length some ≤ 1_000_000) where

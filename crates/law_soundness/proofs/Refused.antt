@@ -1,41 +1,30 @@
 -- Messages that run hooks are refused by the first of their conditions that holds: withdrawing a reward, delegating and
 -- cancelling an unbonding.
-use Rattle.std.proofs.Common.{◌≡◌, ◌∙◌, ℕ, ◌+◌, ◌==◌, Bool, true, false, List, [], ◌∷◌, ◌++◌, Option, Some, None, Result, Ok, Err, refl, sym, ap, subst}
-use Rattle.std.specs.Prelude.{Contains, find, if◌then◌else◌, is_none, nat_lt, option_map, unwrap_or, ⊤}
-use Rattle.base_decimals.specs.declared.over.Over.{Over}
-use Rattle.base_decimals.specs.Decimals.{add_of, mul_int_quo_int_of, whole_of}
+use Rattle.std.proofs.Common.{◌≡◌, ◌∙◌, ℕ, ◌+◌, ◌==◌, Bool, true, false, List, [], ◌∷◌, ◌++◌, Option, Some, None, Result, Ok, Err, refl, sym, ap, subst, Contains, find, if◌then◌else◌, is_none, nat_lt, option_map, unwrap_or}
+use Rattle.std.specs.Prelude.{⊤}
+use Rattle.base_decimals.specs.{declared.over.Over.Over, Decimals.{add_of, mul_int_quo_int_of, whole_of}}
 use Rattle.base_types.specs.declared.account.Account.TheVariants as account
-use Rattle.base_types.specs.declared.status.BondStatus.{BondStatus}
-use Rattle.base_types.specs.declared.status.BondStatus.TheVariants.{Unbonded}
-use Rattle.base_types.specs.Modules.{module_number}
+use Rattle.base_types.specs.{declared.status.BondStatus.{BondStatus, TheVariants.Unbonded}, Modules.module_number}
 use Rattle.base_coins.specs.Coins.{Money}
-use Rattle.base_shares.specs.declared.fault.ShareFault.{ShareFault}
+use Rattle.base_shares.specs.{declared.fault.ShareFault.ShareFault, Shares.{has_invalid_rate, issued_shares, or_over}}
 use Rattle.base_shares.specs.declared.fault.ShareFault.TheVariants as share
-use Rattle.base_shares.specs.Shares.{has_invalid_rate, issued_shares, or_over}
-use Rattle.base_roles.specs.declared.entities.UnbondingEntry.{UnbondingEntry}
-use Rattle.base_roles.specs.declared.entities.Validator.{Validator}
+use Rattle.base_roles.specs.declared.entities.{UnbondingEntry.UnbondingEntry, Validator.Validator}
 use Rattle.base_roles.specs.declared.refusal.Refusal.{Refusal}
 use Rattle.base_roles.specs.declared.refusal.Refusal.TheVariants.{CancelTooMuch, InsufficientFunds, Jailed, NoDelegation, NoEntry, NoValidator, NonPositive, Overflow, RateInvalid, TinyDelegation, WrongDenom}
-use Rattle.base_roles.specs.Holdings.{is_short}
-use Rattle.base_roles.specs.Log.{Log}
-use Rattle.base_roles.specs.Pair.{and_then, given_with}
+use Rattle.base_roles.specs.{Holdings.is_short, Log.Log, Pair.{and_then, given_with}}
 use Rattle.base_roles.specs.Staked.{Staked, delegation, put_validator, validator_at}
 use Rattle.base_roles.specs.Flow.{◌>>=◌, ◌>>◌, or_stop, stop_if, stopping}
 use Rattle.base_roles.specs.World.{Told, View, World, call, exceeds, gives, hooked, modified, modifying, over_mine, over_view, sent}
-use Rattle.law_soundness.proofs.Burns.{total_in}
-use Rattle.law_soundness.proofs.Points.{StateFits, to_fits}
+use Rattle.law_soundness.proofs.{Burns.total_in, Points.{StateFits, to_fits}}
 use Rattle.law_soundness.specs.StepLaws.{CancellationsNameConditions, DelegationsNameConditions, RewardsNameConditions}
-use Rattle.rule_modules.proofs.RefusalLemmas.{mapped, stop_step}
-use Rattle.rule_modules.specs.Amounts.{bond_coins}
+use Rattle.rule_modules.{proofs.RefusalLemmas.{mapped, stop_step}, specs.Amounts.bond_coins}
 use Rattle.rule_modules.specs.Chain.{Hooks, State, chain_told, staked_in, with_shared, with_staked}
 use Rattle.rule_modules.specs.Conditions.{after_hook, first_of, is_nothing, is_short_then, issue_over, over_in, when}
 use Rattle.rule_modules.specs.Delegating.{Origin, delegated, delegated_by, hook_before, is_wrong, paid_in, pool, shares_given, wallet}
 use Rattle.rule_modules.specs.Distribution.{Shared, left_by, reward_renewed, reward_withdrawn, started, told_of}
-use Rattle.rule_modules.specs.RefusalOrder.{refused_in}
-use Rattle.rule_modules.specs.Stakes.{pool_of, put_delegation, refusal_of_shares}
+use Rattle.rule_modules.specs.{RefusalOrder.refused_in, Stakes.{pool_of, put_delegation, refusal_of_shares}}
 use Rattle.rule_modules.specs.Unbondings.{UnbondingLists, can_be_cancelled, cancelled, entries_of, lowered, with_entries}
-use Rattle.rule_modules.specs.Window.{window_told}
-use Rattle.rule_modules.specs.Withdrawals.{reward_taken}
+use Rattle.rule_modules.specs.{Window.window_told, Withdrawals.reward_taken}
 
 -- one condition before a step, then the others
 stop_then : {A B : Type 0} (b : Bool) (why : Refusal) (r : Result A Refusal) (f : A → Result B Refusal) (rest : List (Option Refusal)) → refused_in (r >>= f) ≡ first_of rest → refused_in ((stop_if b why >> r) >>= f) ≡ first_of (when b why ∷ rest)

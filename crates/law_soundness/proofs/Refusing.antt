@@ -1,31 +1,20 @@
 -- Funding the community pool is refused by the first of its conditions that holds of a sound state.
-use Rattle.std.proofs.Common.{◌≡◌, ℕ, ◌+◌, ◌*◌, ◌^◌, ◌<◌, ◌≤◌, Bool, true, false, List, [], ◌∷◌, None, Result, Ok, refl, sym, subst, arith}
-use Rattle.std.specs.Prelude.{Contains, ⊤}
+use Rattle.std.proofs.Common.{◌≡◌, ℕ, ◌+◌, ◌*◌, ◌^◌, ◌<◌, ◌≤◌, Bool, true, false, List, [], ◌∷◌, None, Result, Ok, refl, sym, subst, arith, Contains}
+use Rattle.std.specs.Prelude.{⊤}
 use Rattle.base_types.specs.declared.account.Account.TheVariants as account
 use Rattle.base_types.specs.declared.account.Module.TheVariants as holder
 use Rattle.base_decimals.specs.declared.over.Over.{Over}
-use Rattle.base_roles.specs.declared.refusal.Refusal.{Refusal}
-use Rattle.base_roles.specs.declared.refusal.Refusal.TheVariants.{InsufficientFunds, NonPositive, Overflow}
-use Rattle.base_roles.specs.Flow.{◌>>=◌, ◌>>◌, stop_if, stopping}
-use Rattle.base_coins.proofs.Amounts.{added_fits}
-use Rattle.base_coins.proofs.Order.{rises_from_money}
-use Rattle.base_coins.specs.Coins.{IsMoney, Money, amount_of, coins_added}
+use Rattle.base_roles.specs.declared.refusal.Refusal.{Refusal, TheVariants.{InsufficientFunds, NonPositive, Overflow}}
+use Rattle.base_roles.specs.{Flow.{◌>>=◌, ◌>>◌, stop_if, stopping}, Holdings.{balance_of, is_short}, World.{View, sent}}
 use Rattle.base_roles.proofs.HoldingLemmas.{balance-most}
-use Rattle.base_roles.specs.Holdings.{balance_of, is_short}
-use Rattle.base_roles.specs.World.{View, sent}
-use Rattle.law_soundness.proofs.Burns.{total_in}
-use Rattle.law_soundness.proofs.Bank.{each_within, known_enough}
-use Rattle.law_soundness.proofs.Names.{units_known}
-use Rattle.rule_modules.proofs.PartLemmas.{amount_in_units}
-use Rattle.law_soundness.proofs.Points.{StateFits, to_fits}
-use Rattle.law_soundness.proofs.Purses.{amounts_within}
+use Rattle.base_coins.proofs.{Amounts.added_fits, Order.rises_from_money}
+use Rattle.base_coins.specs.Coins.{IsMoney, Money, amount_of, coins_added}
+use Rattle.law_soundness.proofs.{Burns.total_in, Bank.{each_within, known_enough}, Names.units_known}
+use Rattle.law_soundness.proofs.{Points.{StateFits, to_fits}, Purses.amounts_within}
 use Rattle.law_soundness.specs.StepLaws.{FundsNameConditions}
-use Rattle.rule_modules.specs.Amounts.{in_units, is_empty, over_facts}
-use Rattle.rule_modules.specs.Chain.{State, shared_in, with_shared}
-use Rattle.rule_modules.specs.Conditions.{first_of, when}
-use Rattle.rule_modules.specs.Distribution.{Shared}
-use Rattle.rule_modules.specs.Purses.{Purses, pool_joined, pooled_told}
-use Rattle.rule_modules.specs.RefusalOrder.{refused_in}
+use Rattle.rule_modules.{proofs.PartLemmas.amount_in_units, specs.Amounts.{in_units, is_empty, over_facts}}
+use Rattle.rule_modules.specs.{Chain.{State, shared_in, with_shared}, Conditions.{first_of, when}, Distribution.Shared}
+use Rattle.rule_modules.specs.{Purses.{Purses, pool_joined, pooled_told}, RefusalOrder.refused_in}
 
 module _ (P : List ℕ → Type 0) (T : List ℕ → ℕ) where
   -- coins that an account has join the pool

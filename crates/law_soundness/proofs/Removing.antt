@@ -1,33 +1,20 @@
 -- Removing a validator without shares: its records go, and the distribution account holds what is owed then.
-use Rattle.std.proofs.Common.{div-add-mod', ◌≡◌, ◌∙◌, ℕ, ◌+◌, ◌*◌, ◌^◌, ◌<◌, ◌==◌, ◌++◌, Bool, true, false, cond, List, [], ◌∷◌, Some, None, Ok, refl, sym, ap, subst, arith}
-use Rattle.std.specs.Prelude.{◌-◌, ◌/◌, ◌%◌, ◌&&◌, min, if◌then◌else◌, IfOk, is_some, unwrap_or}
-use Rattle.std.specs.BTreeMap.{is_at}
+use Rattle.std.proofs.Common.{div-add-mod', ◌≡◌, ◌∙◌, ℕ, ◌+◌, ◌*◌, ◌^◌, ◌<◌, ◌==◌, ◌++◌, Bool, true, false, cond, List, [], ◌∷◌, Some, None, Ok, refl, sym, ap, subst, arith, ◌-◌, ◌/◌, ◌%◌, ◌&&◌, min, if◌then◌else◌, IfOk, is_some, unwrap_or}
+use Rattle.std.specs.{BTreeMap.is_at, List.{AllByRecursion, Sorted.IsStrictlySortedBy}, Map.keys_of}
 use Rattle.std.proofs.lemmas.Bool.Decides.{nat_tests}
 use Rattle.base_types.specs.declared.account.Account.TheVariants as account
 use Rattle.base_types.specs.declared.account.Module.TheVariants as holder
-use Rattle.base_types.specs.declared.status.BondStatus.{BondStatus}
-use Rattle.base_types.specs.Orders.{addr_cmp}
-use Rattle.base_roles.specs.declared.entities.Purse.{Purse}
-use Rattle.base_roles.specs.declared.entities.Validator.{Validator}
+use Rattle.base_types.specs.{declared.status.BondStatus.BondStatus, Orders.addr_cmp}
+use Rattle.base_roles.specs.{declared.entities.{Purse.Purse, Validator.Validator}, Hooks.with_operator, Owing.Lists}
+use Rattle.base_roles.specs.{World.{View, World, over_view, over_mine, noted, call}, Entries.{at, number_at, without}}
+use Rattle.base_roles.specs.{Holdings.balance_of, Items.no_purse, Orders.{pair_cmp, same_addr}}
+use Rattle.base_roles.specs.Staked.{Staked, is_bonded, is_unbonded, lists_of, tokens_where, validator_at}
+use Rattle.base_roles.specs.{StakeChanges.of_bond, declared.facts.Fact.Fact}
 use Rattle.base_roles.specs.declared.facts.Fact.TheVariants as fact
-use Rattle.base_roles.specs.Hooks.{with_operator}
-use Rattle.base_roles.specs.Owing.{Lists}
-use Rattle.base_roles.specs.World.{View, World, over_view, over_mine, noted, call}
 use Rattle.base_roles.specs.World as hook
-use Rattle.std.specs.List.{AllByRecursion}
-use Rattle.std.specs.List.Sorted.{IsStrictlySortedBy}
-use Rattle.std.specs.Map.{keys_of}
-use Rattle.base_coins.proofs.Amounts.{amount-added, amount-all}
-use Rattle.base_coins.proofs.Order.{rises_from_money}
+use Rattle.base_coins.proofs.{Amounts.{amount-added, amount-all}, Order.rises_from_money}
 use Rattle.base_coins.specs.Coins.{Money, amount_of, coins_added, coins_taken, fractions}
 use Rattle.base_decimals.specs.Decimals.{trunc_of}
-use Rattle.base_roles.specs.Entries.{at, number_at, without}
-use Rattle.base_roles.specs.Holdings.{balance_of}
-use Rattle.base_roles.specs.Items.{no_purse}
-use Rattle.base_roles.specs.Orders.{pair_cmp, same_addr}
-use Rattle.base_roles.specs.Staked.{Staked, is_bonded, is_unbonded, lists_of, tokens_where, validator_at}
-use Rattle.base_roles.specs.StakeChanges.{of_bond}
-use Rattle.base_roles.specs.declared.facts.Fact.{Fact}
 use Rattle.law_soundness.proofs.Burns.{IsQuiet, quiet_behind, quiet_pooled}
 use Rattle.law_soundness.proofs.Hooking.{hook_gave, on_call, stake_hooks, unlogged_if}
 use Rattle.law_soundness.proofs.Lists.{all_taken, ascend_taken, weaker}
@@ -36,22 +23,15 @@ use Rattle.law_soundness.proofs.Names.{IsKnown, known_added, known_fractions, kn
 use Rattle.law_soundness.proofs.Periods.{Ordered, some_unwrap}
 use Rattle.law_soundness.proofs.Points.{GroundFits, IsRecorded, PeriodsFit, PurseFits, StakeFits, StartFits}
 use Rattle.law_soundness.proofs.Purses.{HasJoined, are_paid, has_joined, owed_of, own_purse}
-use Rattle.law_soundness.proofs.Standing.{stake_relisted, stake_told}
-use Rattle.law_soundness.proofs.Steps.{on_then}
-use Rattle.rule_modules.proofs.GoingLemmas.{on_bind}
-use Rattle.rule_modules.proofs.TotalLemmas.{total, total_left}
-use Rattle.rule_modules.proofs.EntryLemmas.{at-taken}
+use Rattle.law_soundness.proofs.{Standing.{stake_relisted, stake_told}, Steps.on_then}
+use Rattle.rule_modules.proofs.{GoingLemmas.on_bind, TotalLemmas.{total, total_left}, EntryLemmas.at-taken}
 use Rattle.rule_modules.proofs.OrderLemmas.{addr_total, same_back, same_is}
-use Rattle.rule_modules.proofs.SoundLemmas.{IsSoundAt, held_within, shares_at}
-use Rattle.rule_modules.proofs.TokenLemmas.{tokens-left}
-use Rattle.rule_modules.specs.Amounts.{is_empty}
-use Rattle.rule_modules.specs.Chain.{Hooks, chain_told}
-use Rattle.rule_modules.specs.Distribution.{Shared, paid_to, payee_of, records_removed}
-use Rattle.rule_modules.specs.Owed.{owed_from_distribution}
+use Rattle.rule_modules.proofs.{SoundLemmas.{IsSoundAt, held_within, shares_at}, TokenLemmas.tokens-left}
+use Rattle.rule_modules.specs.{Amounts.is_empty, Chain.{Hooks, chain_told}}
+use Rattle.rule_modules.specs.{Distribution.{Shared, paid_to, payee_of, records_removed}, Owed.owed_from_distribution}
 use Rattle.rule_modules.specs.Periods.{Periods}
 use Rattle.rule_modules.specs.Purses.{Purses, closed, due_at_last, pool_joined, pooled_told, purse_of}
-use Rattle.rule_modules.specs.Stakes.{without_validator}
-use Rattle.rule_modules.specs.Unbonding.{removed_if_empty, validator_removed}
+use Rattle.rule_modules.specs.{Stakes.without_validator, Unbonding.{removed_if_empty, validator_removed}}
 
 -- a key is gone
 gone_key : {X : Type 0} (es : List (List ℕ × X)) (k q : List ℕ) → IsStrictlySortedBy addr_cmp (keys_of es) → is_some (at addr_cmp (without addr_cmp es k) q) ≡ cond (same_addr k q) false (is_some (at addr_cmp es q))

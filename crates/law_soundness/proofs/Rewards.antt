@@ -1,30 +1,17 @@
 -- Ending and starting periods, and withdrawing rewards, as hooks do it: distribution stands for the lists after it, and the
 -- distribution account holds what is owed.
-use Rattle.std.proofs.Common.{div-add-mod', ◌≡◌, ◌∙◌, ℕ, ◌+◌, ◌*◌, ◌^◌, ◌<◌, ◌≤◌, ◌==◌, ◌++◌, Bool, true, false, cond, List, [], ◌∷◌, Some, None, Option, Ok, refl, sym, ap, subst, arith}
-use Rattle.std.specs.Prelude.{◌-◌, ◌&&◌, ◌/◌, ◌%◌, IfOk, is_some, min}
-use Rattle.std.specs.BTreeMap.{is_at}
-use Rattle.std.specs.List.{AllByRecursion}
+use Rattle.std.proofs.Common.{div-add-mod', ◌≡◌, ◌∙◌, ℕ, ◌+◌, ◌*◌, ◌^◌, ◌<◌, ◌≤◌, ◌==◌, ◌++◌, Bool, true, false, cond, List, [], ◌∷◌, Some, None, Option, Ok, refl, sym, ap, subst, arith, ◌-◌, ◌&&◌, ◌/◌, ◌%◌, IfOk, is_some, min}
+use Rattle.std.specs.{BTreeMap.is_at, List.{AllByRecursion, Sorted.IsStrictlySortedBy}, Map.keys_of}
 use Rattle.base_types.specs.declared.account.Account.TheVariants as account
 use Rattle.base_types.specs.Orders.{addr_cmp}
-use Rattle.base_roles.specs.declared.entities.Purse.{Purse}
-use Rattle.base_roles.specs.declared.entities.StartingInfo.{StartingInfo}
-use Rattle.base_roles.specs.declared.entities.Validator.{Validator}
-use Rattle.base_roles.specs.declared.facts.Fact.TheVariants as fact
+use Rattle.base_roles.specs.declared.entities.{Purse.Purse, StartingInfo.StartingInfo, Validator.Validator}
 use Rattle.base_roles.specs.declared.refusal.Refusal.TheVariants.{NoValidator, NoDelegation, Overflow}
-use Rattle.base_roles.specs.Entries.{at, with}
-use Rattle.base_roles.specs.Hooks.{with_started}
-use Rattle.base_roles.specs.Owing.{Lists}
-use Rattle.base_roles.specs.Log.{Log}
-use Rattle.base_roles.specs.World.{View, noted}
-use Rattle.std.specs.List.Sorted.{IsStrictlySortedBy}
-use Rattle.std.specs.Map.{keys_of}
-use Rattle.base_coins.proofs.Amounts.{amount-all}
-use Rattle.base_coins.proofs.Order.{rises_from_money}
+use Rattle.base_roles.specs.{Entries.{at, with}, Hooks.with_started, Owing.Lists, Log.Log, World.{View, noted}}
+use Rattle.base_roles.specs.{Items.no_purse, Orders.{pair_cmp, same_addr}, Staked.{lists_of, delegation, validator_at}}
+use Rattle.base_roles.specs.declared.facts.Fact.TheVariants as fact
+use Rattle.base_coins.proofs.{Amounts.amount-all, Order.rises_from_money}
 use Rattle.base_coins.specs.Coins.{Money, amount_of, coins_added, coins_mul_cut, coins_taken, fractions, smaller_of, whole_coins}
 use Rattle.base_decimals.specs.Decimals.{trunc_of}
-use Rattle.base_roles.specs.Items.{no_purse}
-use Rattle.base_roles.specs.Orders.{pair_cmp, same_addr}
-use Rattle.base_roles.specs.Staked.{lists_of, delegation, validator_at}
 use Rattle.law_soundness.proofs.Burns.{quiet_behind, quiet_pooled}
 use Rattle.law_soundness.proofs.Lists.{all_put, all_taken, ascend_taken, looked_up}
 use Rattle.law_soundness.proofs.Moves.{HooksFit, Leaves, fit_after, keeps, leaves_then, state_left, user_is_other, ground_told}
@@ -32,19 +19,14 @@ use Rattle.law_soundness.proofs.Names.{IsKnown, known_added, known_fractions, kn
 use Rattle.law_soundness.proofs.Periods.{HasEnded, HasTaken, ended_with, has_ended, has_taken, periods_put, pool_after, ratio_known, same_some, some_unwrap, start_after, Ordered}
 use Rattle.law_soundness.proofs.Points.{PeriodsFit, PurseFits, SharedFits, StartFits, StateFits, StateLeft}
 use Rattle.law_soundness.proofs.Purses.{HasJoined, PursesFit, are_paid, has_joined, owed_of, own_purse, purse_put, shared_purses}
-use Rattle.law_soundness.proofs.Standing.{own_place, relisted}
-use Rattle.law_soundness.proofs.Steps.{lifted_if, on_then, weaker_if}
-use Rattle.rule_modules.proofs.GoingLemmas.{on_bind, on_found}
-use Rattle.rule_modules.proofs.TotalLemmas.{total, total_put}
+use Rattle.law_soundness.proofs.{Standing.{own_place, relisted}, Steps.{lifted_if, on_then, weaker_if}}
 use Rattle.law_soundness.specs.StepLaws.{RewardsKeepSoundness}
+use Rattle.rule_modules.proofs.{GoingLemmas.{on_bind, on_found}, TotalLemmas.{total, total_put}}
 use Rattle.rule_modules.proofs.EntryLemmas.{ascend-put, at-put, at-taken}
 use Rattle.rule_modules.proofs.OrderLemmas.{addr_total, pair_found, pair_total, same_back, same_is, same_itself}
-use Rattle.rule_modules.proofs.SoundLemmas.{exact_pair}
-use Rattle.rule_modules.specs.Amounts.{over_facts}
-use Rattle.rule_modules.specs.Chain.{State, with_shared}
+use Rattle.rule_modules.{proofs.SoundLemmas.exact_pair, specs.{Amounts.over_facts, Chain.{State, with_shared}}}
 use Rattle.rule_modules.specs.Distribution.{Shared, current_taken, paid_to, payee_of, reward_due, reward_renewed, reward_withdrawn, ended, started}
-use Rattle.rule_modules.specs.Effects.{withdraw_reward}
-use Rattle.rule_modules.specs.Owed.{owed_from_distribution}
+use Rattle.rule_modules.specs.{Effects.withdraw_reward, Owed.owed_from_distribution}
 use Rattle.rule_modules.specs.Periods.{Periods, Rewards, Stretch, earned, initial_records, last_ended, period_ended, periods_of, ratio_at, reward_at, start_of, stretches_of, with_start, without_start}
 use Rattle.rule_modules.specs.Purses.{Purses, paid_out, pool_joined, pooled_told, purse_of, with_purse}
 use Rattle.rule_modules.specs.Withdrawals.{reward_taken}

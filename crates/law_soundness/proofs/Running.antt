@@ -1,52 +1,31 @@
 -- Blocks keep a state sound, and so do runs of them.
-use Rattle.std.proofs.Common.{◌≡◌, ◌∙◌, ℕ, suc, ◌+◌, ◌*◌, ◌^◌, ◌<◌, ◌≤◌, Bool, true, false, List, [], ◌∷◌, ◌++◌, length, map, Some, None, Option, Result, Ok, Err, refl, sym, ap, subst, arith}
-use Rattle.std.specs.Prelude.{◌||◌, nat_lt, is_none, sum, All, IfOk, Contains, ⊤}
-use Rattle.std.specs.BTreeMap.{is_at}
-use Rattle.std.specs.List.{AllByRecursion, list_any}
-use Rattle.std.proofs.lemmas.List.Elements.{All-head, All-tail}
-use Rattle.std.proofs.lemmas.List.Sums.{sum_by-cons}
+use Rattle.std.proofs.Common.{◌≡◌, ◌∙◌, ℕ, suc, ◌+◌, ◌*◌, ◌^◌, ◌<◌, ◌≤◌, Bool, true, false, List, [], ◌∷◌, ◌++◌, length, map, Some, None, Option, Result, Ok, Err, refl, sym, ap, subst, arith, ◌||◌, nat_lt, is_none, sum, All, IfOk, Contains}
+use Rattle.std.specs.{Prelude.⊤, BTreeMap.is_at, List.{AllByRecursion, list_any}}
+use Rattle.std.proofs.lemmas.List.{Elements.{All-head, All-tail}, Sums.sum_by-cons}
 use Rattle.base_types.specs.Orders.{cons_cmp}
-use Rattle.base_roles.specs.declared.entities.Validator.{Validator}
-use Rattle.base_roles.specs.declared.facts.Fact.{Fact}
-use Rattle.base_roles.specs.declared.messages.Evidence.{Evidence}
-use Rattle.base_roles.specs.declared.messages.Vote.{Vote}
-use Rattle.base_roles.specs.declared.params.Ctx.{Ctx}
+use Rattle.base_roles.specs.declared.{entities.Validator.Validator, facts.Fact.Fact, messages.Evidence.Evidence}
+use Rattle.base_roles.specs.{declared.{messages.Vote.Vote, params.Ctx.Ctx}, Holdings.supply_of}
+use Rattle.base_roles.specs.{Flow.{◌>>=◌, ◌>>◌, stop_if, each}, Staked.{Staked, lists_of, validator_by_cons}}
 use Rattle.base_roles.proofs.MomentLemmas.{same_moment}
-use Rattle.base_roles.specs.Holdings.{supply_of}
-use Rattle.base_roles.specs.Flow.{◌>>=◌, ◌>>◌, stop_if, each}
-use Rattle.base_messages.specs.declared.block.Block.{Block}
-use Rattle.base_messages.specs.declared.faults.BlockFault.{BlockFault}
+use Rattle.base_messages.specs.declared.{block.Block.Block, faults.BlockFault.BlockFault}
 use Rattle.base_messages.specs.declared.faults.BlockFault.TheVariants.{UnknownVote, RepeatedVote, BadPower, RatioLimit}
-use Rattle.base_messages.specs.declared.report.BlockReport.{BlockReport}
-use Rattle.base_messages.specs.declared.report.TxReport.{TxReport}
+use Rattle.base_messages.specs.declared.report.{BlockReport.BlockReport, TxReport.TxReport}
 use Rattle.rule_machine.specs.Machine.{Run, Step, TxSteps, vote_checked, votes_checked, evidence_checked, block_checked, power_of_votes, stop_at, step, going_on, run_of, txs_applied}
-use Rattle.rule_machine.specs.Blocks.{block_fault}
-use Rattle.rule_machine.proofs.DueLemmas.{IsDue, is_due}
-use Rattle.base_roles.specs.Staked.{Staked, lists_of, validator_by_cons}
-use Rattle.rule_machine.specs.GenesisState.{without_facts}
-use Rattle.rule_machine.specs.Promises.{AreInput, TxHasCoins, facts_of}
-use Rattle.law_soundness.proofs.Burns.{burned_together, total_in}
-use Rattle.law_soundness.proofs.Allocating.{fees_leave, with_purses}
-use Rattle.law_soundness.proofs.Bonding.{set_step_fits}
-use Rattle.law_soundness.proofs.Ending.{redelegations_fit, unbondings_fit}
-use Rattle.law_soundness.proofs.Entries.{PairFits, PairsFit, to_pairs}
-use Rattle.law_soundness.proofs.Following.{next_fits}
-use Rattle.law_soundness.proofs.Hooking.{stake_hooks}
-use Rattle.law_soundness.proofs.Lists.{weaker}
-use Rattle.law_soundness.proofs.Maturing.{maturing_fits}
-use Rattle.law_soundness.proofs.Moves.{Leaves, state_left}
+use Rattle.rule_machine.specs.{Blocks.block_fault, GenesisState.without_facts}
+use Rattle.rule_machine.{specs.Promises.{AreInput, TxHasCoins, facts_of}, proofs.DueLemmas.{IsDue, is_due}}
+use Rattle.law_soundness.proofs.{Burns.{burned_together, total_in}, Allocating.{fees_leave, with_purses}}
+use Rattle.law_soundness.proofs.{Bonding.set_step_fits, Ending.{redelegations_fit, unbondings_fit}}
+use Rattle.law_soundness.proofs.{Entries.{PairFits, PairsFit, to_pairs}, Following.next_fits, Hooking.stake_hooks}
+use Rattle.law_soundness.proofs.{Lists.weaker, Maturing.maturing_fits, Moves.{Leaves, state_left}}
 use Rattle.law_soundness.proofs.Points.{StateFits, StateLeft, WholeEntries, from_fits, to_fits}
 use Rattle.law_soundness.proofs.Steps.{on_lifted_then, on_then, weaker_if}
-use Rattle.rule_modules.proofs.GoingLemmas.{on_next}
 use Rattle.law_soundness.proofs.Transactions.{TxsFit, WholeFits, burned_by, renewed, txs_fit, without_facts_fits}
 use Rattle.law_soundness.proofs.Voting.{EvidenceLeft, VoteLeft, evidence_fits, own_record, vote_fits}
 use Rattle.law_soundness.specs.StepLaws.{RunsKeepSoundness, RunsLowerSupplies}
-use Rattle.rule_modules.specs.Allocation.{fees_allocated}
+use Rattle.rule_modules.{proofs.GoingLemmas.on_next, specs.Allocation.fees_allocated}
 use Rattle.rule_modules.specs.Chain.{State, allocation_step, begin_block, end_block, evidence_step, maturing_step, redelegations_step, set_step, staked_in, unbondings_step, vote_step}
-use Rattle.rule_modules.specs.Laws.{burned_in, next_block}
-use Rattle.rule_modules.specs.Sound.{IsSound, UnbondingIsSound}
-use Rattle.rule_modules.specs.Unbondings.{UnbondingLists}
-use Rattle.rule_modules.specs.Window.{Signing, signing_of}
+use Rattle.rule_modules.specs.{Laws.{burned_in, next_block}, Sound.{IsSound, UnbondingIsSound}}
+use Rattle.rule_modules.specs.{Unbondings.UnbondingLists, Window.{Signing, signing_of}}
 
 -- ---- votes that were checked
 

@@ -1,49 +1,29 @@
 -- Slashes keep what fits: what burns leaves the accounts as it leaves validators and entries.
-use Rattle.std.proofs.Common.{◌≡◌, ◌∙◌, ℕ, ◌+◌, ◌*◌, ◌^◌, ◌<◌, ◌≤◌, ◌==◌, Bool, true, false, cond, List, [], ◌∷◌, ◌++◌, length, map, Option, Some, None, refl, sym, ap, subst, arith}
-use Rattle.std.specs.Prelude.{◌-◌, min, filter, sum, unwrap_or, if◌then◌else◌, IfOk}
-use Rattle.std.specs.BTreeMap.{is_at}
-use Rattle.std.proofs.lemmas.Bool.Decides.{nat_tests}
-use Rattle.std.proofs.lemmas.List.Sums.{sum_by-cons}
-use Rattle.base_types.specs.declared.account.Account.{Account}
+use Rattle.std.proofs.Common.{◌≡◌, ◌∙◌, ℕ, ◌+◌, ◌*◌, ◌^◌, ◌<◌, ◌≤◌, ◌==◌, Bool, true, false, cond, List, [], ◌∷◌, ◌++◌, length, map, Option, Some, None, refl, sym, ap, subst, arith, ◌-◌, min, filter, sum, unwrap_or, if◌then◌else◌, IfOk}
+use Rattle.std.specs.{BTreeMap.is_at, List.{AllByRecursion, Sorted.IsStrictlySortedBy}, Map.keys_of}
+use Rattle.std.proofs.lemmas.{Bool.Decides.nat_tests, List.Sums.sum_by-cons}
+use Rattle.base_types.specs.{declared.account.Account.Account, Orders.denom_cmp}
 use Rattle.base_types.specs.declared.account.Account.TheVariants as account
 use Rattle.base_types.specs.declared.account.Module.TheVariants as holder
-use Rattle.base_types.specs.Orders.{denom_cmp}
-use Rattle.base_roles.specs.declared.entities.SlashEvent.{SlashEvent}
-use Rattle.base_roles.specs.declared.entities.UnbondingEntry.{UnbondingEntry}
-use Rattle.base_roles.specs.declared.entities.Validator.{Validator}
-use Rattle.base_roles.specs.declared.params.Ctx.{Ctx}
-use Rattle.base_roles.specs.Owing.{Lists}
-use Rattle.base_roles.specs.World.{View, World, burnt, over_view}
-use Rattle.base_roles.proofs.BurnLemmas.{burns_by_amounts}
-use Rattle.rule_modules.specs.EntrySlashes.{is_hit, part_of, burned_of, entry_slashed, entries_slashed, entries_followed, followed}
-use Rattle.std.specs.List.{AllByRecursion}
-use Rattle.std.specs.List.Sorted.{IsStrictlySortedBy}
-use Rattle.std.specs.Map.{keys_of}
-use Rattle.base_roles.proofs.HoldingLemmas.{backed-burned}
-use Rattle.base_roles.specs.Entries.{at}
+use Rattle.base_roles.specs.declared.entities.{SlashEvent.SlashEvent, UnbondingEntry.UnbondingEntry}
+use Rattle.base_roles.specs.{declared.{entities.Validator.Validator, params.Ctx.Ctx}, Owing.Lists}
+use Rattle.base_roles.specs.{World.{View, World, burnt, over_view}, Entries.at}
 use Rattle.base_roles.specs.Holdings.{Holdings, IsBacked, balance_of, burned, coin_burned}
-use Rattle.base_roles.specs.Orders.{pair_cmp, same_addr}
-use Rattle.base_roles.specs.Staked.{Staked, bonded_tokens, other_tokens}
-use Rattle.base_roles.specs.StakeChanges.{of_bond}
-use Rattle.law_soundness.proofs.Burns.{total_burnt}
-use Rattle.law_soundness.proofs.Bank.{AreHeld, held_with, name_held}
-use Rattle.law_soundness.proofs.Ending.{under}
-use Rattle.law_soundness.proofs.Entries.{Entries, PairFits, PairsFit, put_balances, put_entries, sum_more}
-use Rattle.law_soundness.proofs.Lists.{joined_all, looked_up, weaker}
-use Rattle.law_soundness.proofs.Moves.{HooksFit, Leaves}
-use Rattle.law_soundness.proofs.Periods.{ended_with, periods_put}
-use Rattle.law_soundness.proofs.Points.{EventFits, PeriodsFit, SharedFits, StakeFits}
-use Rattle.law_soundness.proofs.Rewards.{EndFits, end_fits, own_periods}
-use Rattle.law_soundness.proofs.Steps.{on_then}
-use Rattle.rule_modules.proofs.TotalLemmas.{total_more}
-use Rattle.rule_modules.proofs.EntryLemmas.{without_none}
-use Rattle.rule_modules.proofs.OrderLemmas.{pair_total, same_back, same_itself}
-use Rattle.rule_modules.specs.Chain.{Hooks}
-use Rattle.rule_modules.specs.Distribution.{Shared, slash_recorded, ended}
+use Rattle.base_roles.specs.{Orders.{pair_cmp, same_addr}, Staked.{Staked, bonded_tokens, other_tokens}}
+use Rattle.base_roles.{specs.StakeChanges.of_bond, proofs.{BurnLemmas.burns_by_amounts, HoldingLemmas.backed-burned}}
+use Rattle.rule_modules.specs.EntrySlashes.{is_hit, part_of, burned_of, entry_slashed, entries_slashed, entries_followed, followed}
+use Rattle.rule_modules.specs.{Chain.Hooks, Distribution.{Shared, slash_recorded, ended}}
 use Rattle.rule_modules.specs.Owed.{balances_of, entry_balances}
 use Rattle.rule_modules.specs.Periods.{Periods, event_recorded, initial_records, last_ended, periods_of, with_periods}
 use Rattle.rule_modules.specs.Sound.{GrowWithHeight, UnbondingIsSound}
-use Rattle.rule_modules.specs.Unbondings.{UnbondingLists, entries_of, with_entries}
+use Rattle.rule_modules.{specs.Unbondings.{UnbondingLists, entries_of, with_entries}, proofs.TotalLemmas.total_more}
+use Rattle.rule_modules.proofs.{EntryLemmas.without_none, OrderLemmas.{pair_total, same_back, same_itself}}
+use Rattle.law_soundness.proofs.{Burns.total_burnt, Bank.{AreHeld, held_with, name_held}, Ending.under}
+use Rattle.law_soundness.proofs.Entries.{Entries, PairFits, PairsFit, put_balances, put_entries, sum_more}
+use Rattle.law_soundness.proofs.{Lists.{joined_all, looked_up, weaker}, Moves.{HooksFit, Leaves}}
+use Rattle.law_soundness.proofs.Periods.{ended_with, periods_put}
+use Rattle.law_soundness.proofs.Points.{EventFits, PeriodsFit, SharedFits, StakeFits}
+use Rattle.law_soundness.proofs.{Rewards.{EndFits, end_fits, own_periods}, Steps.on_then}
 
 -- ---- slash events
 

@@ -1,43 +1,27 @@
 -- Validators that stand as they were, but for a rate, a least self-delegation or a jail: edits and leaving jail keep a state
 -- sound.
-use Rattle.std.proofs.Common.{◌≡◌, ◌∙◌, ℕ, ◌+◌, ◌≤◌, Bool, true, false, cond, List, [], ◌∷◌, Some, None, Option, refl, sym, ap, subst, arith, ◌++◌}
-use Rattle.std.specs.Prelude.{if◌then◌else◌, IfOk, not, nat_lt, nat_le, is_some, IsSome, ◌-◌}
-use Rattle.std.proofs.lemmas.Bool.Decides.{nat_tests}
-use Rattle.base_types.specs.declared.status.BondStatus.{BondStatus}
-use Rattle.base_types.specs.Orders.{addr_cmp}
-use Rattle.base_roles.specs.declared.entities.Validator.{Validator}
-use Rattle.base_roles.specs.declared.messages.EditValidator.{EditValidator}
-use Rattle.base_roles.specs.declared.refusal.Refusal.TheVariants.{NoValidator, CommissionBelowMinimum, CommissionTooSoon, CommissionAboveMax, CommissionStep, SelfBelowMinimum, MinSelfNotRaised, NoSelfDelegation, NotJailed}
-use Rattle.base_roles.specs.declared.facts.Fact.TheVariants as fact
-use Rattle.base_roles.specs.World.{World, over_view, over_mine}
-use Rattle.std.specs.BTreeMap.{is_at}
-use Rattle.std.specs.List.Sorted.{IsStrictlySortedBy}
+use Rattle.std.proofs.Common.{◌≡◌, ◌∙◌, ℕ, ◌+◌, ◌≤◌, Bool, true, false, cond, List, [], ◌∷◌, Some, None, Option, refl, sym, ap, subst, arith, ◌++◌, if◌then◌else◌, IfOk, not, nat_lt, nat_le, is_some, IsSome, ◌-◌}
+use Rattle.std.{proofs.lemmas.Bool.Decides.nat_tests, specs.{BTreeMap.is_at, List.Sorted.IsStrictlySortedBy}}
 use Rattle.std.specs.Map.{keys_of}
-use Rattle.base_decimals.specs.Decimals.{trunc_of}
-use Rattle.base_roles.specs.Entries.{with}
-use Rattle.base_roles.specs.Owing.{Lists}
+use Rattle.base_types.specs.{declared.status.BondStatus.BondStatus, Orders.addr_cmp}
+use Rattle.base_roles.specs.declared.{entities.Validator.Validator, messages.EditValidator.EditValidator}
+use Rattle.base_roles.specs.declared.refusal.Refusal.TheVariants.{NoValidator, CommissionBelowMinimum, CommissionTooSoon, CommissionAboveMax, CommissionStep, SelfBelowMinimum, MinSelfNotRaised, NoSelfDelegation, NotJailed}
+use Rattle.base_roles.specs.{World.{World, over_view, over_mine}, Entries.with, Owing.Lists}
 use Rattle.base_roles.specs.Staked.{Staked, is_bonded, is_unbonded, lists_of, delegation, tokens_where, validator_at, put_validator}
-use Rattle.base_roles.specs.StakeChanges.{of_bond}
-use Rattle.base_roles.specs.declared.facts.Fact.{Fact}
-use Rattle.law_soundness.proofs.Burns.{SayNoMore, quiet_behind}
-use Rattle.law_soundness.proofs.Lists.{all_put, looked_up}
+use Rattle.base_roles.specs.{StakeChanges.of_bond, declared.facts.Fact.Fact, Log.Log}
+use Rattle.base_roles.specs.declared.facts.Fact.TheVariants as fact
+use Rattle.base_decimals.specs.Decimals.{trunc_of}
+use Rattle.law_soundness.proofs.{Burns.{SayNoMore, quiet_behind}, Lists.{all_put, looked_up}}
 use Rattle.law_soundness.proofs.Moves.{keeps, ground_told}
-use Rattle.law_soundness.proofs.Points.{IsRecorded, SharedFits, StakeFits, StateFits, StateLeft}
-use Rattle.law_soundness.proofs.Purses.{there_still}
-use Rattle.law_soundness.proofs.Steps.{on_then}
+use Rattle.law_soundness.proofs.{Points.{IsRecorded, SharedFits, StakeFits, StateFits, StateLeft}, Purses.there_still}
+use Rattle.law_soundness.{proofs.Steps.on_then, specs.StepLaws.{EditsKeepSoundness, UnjailingKeepsSoundness}}
 use Rattle.rule_modules.proofs.GoingLemmas.{on_found, on_next, on_stop}
-use Rattle.law_soundness.specs.StepLaws.{EditsKeepSoundness, UnjailingKeepsSoundness}
-use Rattle.rule_modules.proofs.SoundLemmas.{IsSoundAt, exact_addr, sound-put}
-use Rattle.rule_modules.proofs.TokenLemmas.{tokens-put, counted}
-use Rattle.rule_modules.specs.Amounts.{over_facts, seconds}
-use Rattle.rule_modules.specs.Chain.{Hooks, State, staked_in}
-use Rattle.rule_modules.specs.Distribution.{Shared}
-use Rattle.rule_modules.specs.Effects.{edit_validator, unjail}
-use Rattle.rule_modules.specs.Sound.{ValidatorIsSound}
+use Rattle.rule_modules.proofs.{SoundLemmas.{IsSoundAt, exact_addr, sound-put}, TokenLemmas.{tokens-put, counted}}
+use Rattle.rule_modules.specs.{Amounts.{over_facts, seconds}, Chain.{Hooks, State, staked_in}, Distribution.Shared}
+use Rattle.rule_modules.specs.{Effects.{edit_validator, unjail}, Sound.ValidatorIsSound}
 use Rattle.rule_modules.specs.Validators.{edit_formed, minimum_edited, rate_edited, edited}
 use Rattle.rule_modules.specs.Window.{may_leave, signing_of, unjailed}
 use Rattle.base_shares.specs.Shares.{value_even_of}
-use Rattle.base_roles.specs.Log.{Log}
 
 -- ---- validators that are put in their own place
 

@@ -1,27 +1,18 @@
 -- What a good genesis starts is sound.
-use Rattle.std.proofs.Common.{◌≡◌, ◌∙◌, ℕ, ◌+◌, ◌*◌, ◌^◌, ◌<◌, ◌≤◌, Bool, true, false, cond, List, [], ◌∷◌, length, map, Some, None, Option, Ok, refl, sym, ap, subst, arith}
-use Rattle.std.specs.Prelude.{nat_lt, sum, unwrap_or, All, IfOk, Contains}
-use Rattle.std.specs.BTreeMap.{is_at}
-use Rattle.std.specs.List.{AllByRecursion}
-use Rattle.std.specs.List.Sorted.{IsStrictlySortedBy}
-use Rattle.std.specs.Map.{keys_of, lookup}
-use Rattle.std.proofs.lemmas.Bool.Decides.{nat_tests}
-use Rattle.std.proofs.lemmas.List.Elements.{All-nil, recursion_from_All, All-contains_itself}
+use Rattle.std.proofs.Common.{◌≡◌, ◌∙◌, ℕ, ◌+◌, ◌*◌, ◌^◌, ◌<◌, ◌≤◌, Bool, true, false, cond, List, [], ◌∷◌, length, map, Some, None, Option, Ok, refl, sym, ap, subst, arith, nat_lt, sum, unwrap_or, All, IfOk, Contains}
+use Rattle.std.specs.{BTreeMap.is_at, List.{AllByRecursion, Sorted.IsStrictlySortedBy}, Map.{keys_of, lookup}}
+use Rattle.std.proofs.lemmas.{Bool.Decides.nat_tests, List.Elements.{All-nil, recursion_from_All, All-contains_itself}}
 use Rattle.std.proofs.lemmas.List.Sums.{sum_by-cons}
-use Rattle.base_types.specs.declared.account.Account.{Account}
-use Rattle.base_types.specs.declared.account.Module.TheVariants as holder
-use Rattle.base_types.specs.declared.status.BondStatus.TheVariants.{Unbonded}
+use Rattle.base_types.specs.declared.{account.Account.Account, status.BondStatus.TheVariants.Unbonded}
 use Rattle.base_types.specs.Orders.{denom_cmp}
-use Rattle.base_roles.specs.declared.entities.UnbondingEntry.{UnbondingEntry}
-use Rattle.base_roles.specs.declared.entities.RedelegationEntry.{RedelegationEntry}
-use Rattle.base_roles.specs.declared.entities.Validator.{Validator}
-use Rattle.base_roles.specs.declared.params.Ctx.{Ctx}
-use Rattle.base_roles.specs.declared.params.Params.{Params}
-use Rattle.base_roles.specs.declared.refusal.Refusal.TheVariants.{NoValidator, Overflow}
-use Rattle.base_roles.specs.Flow.{each}
-use Rattle.base_roles.specs.World.{View, World}
-use Rattle.base_messages.specs.declared.genesis.Genesis.{Genesis}
-use Rattle.base_messages.specs.declared.genesis.GenesisDelegation.{GenesisDelegation}
+use Rattle.base_types.specs.declared.account.Module.TheVariants as holder
+use Rattle.base_roles.specs.declared.entities.{UnbondingEntry.UnbondingEntry, RedelegationEntry.RedelegationEntry}
+use Rattle.base_roles.specs.declared.{entities.Validator.Validator, params.{Ctx.Ctx, Params.Params}}
+use Rattle.base_roles.specs.{declared.refusal.Refusal.TheVariants.{NoValidator, Overflow}, Flow.each}
+use Rattle.base_roles.specs.{World.{View, World}, Holdings.{Holdings, IsBacked, balance_of, supply_of, total_of}}
+use Rattle.base_roles.specs.{Orders.place_cmp, Staked.{Staked, lists_of, validator_at}}
+use Rattle.base_roles.proofs.HoldingLemmas.{balance-within, place_exact, place_total}
+use Rattle.base_messages.specs.declared.genesis.{Genesis.Genesis, GenesisDelegation.GenesisDelegation}
 use Rattle.base_messages.specs.declared.genesis.GenesisValidator.{GenesisValidator}
 use Rattle.rule_machine.specs.Genesis.{held_at_start, supplies_with}
 use Rattle.rule_machine.specs.GenesisConditions.{accounts_at_start, start_condition}
@@ -29,36 +20,19 @@ use Rattle.rule_machine.specs.GenesisState.{Start, ground_at_start, empty_over, 
 use Rattle.rule_machine.specs.Promises.{IsGoodGenesis, Replayed, RunsAreSound, SuppliesFallByBurns, AccountsHoldWhatIsOwed}
 use Rattle.rule_machine.proofs.EnterLemmas.{IsEntering, Enters, entering, one_enters}
 use Rattle.rule_machine.proofs.StartLemmas.{may_start, start_in_order, modules_hold, no_stake, entrant}
-use Rattle.rule_modules.specs.Delegating.{pool, delegated}
-use Rattle.base_coins.proofs.Amounts.{is_equal}
-use Rattle.base_coins.proofs.Order.{same_name}
-use Rattle.base_coins.specs.Coins.{Money, amount_of}
-use Rattle.base_roles.proofs.HoldingLemmas.{balance-within, place_exact, place_total}
-use Rattle.base_roles.specs.Holdings.{Holdings, IsBacked, balance_of, supply_of, total_of}
-use Rattle.base_roles.specs.Orders.{place_cmp}
-use Rattle.base_roles.specs.Staked.{Staked, lists_of, validator_at}
 use Rattle.rule_machine.proofs.StakesLemmas.{nobody_has}
-use Rattle.law_soundness.proofs.Burns.{total_in}
-use Rattle.law_soundness.proofs.Bank.{AreHeld}
-use Rattle.law_soundness.proofs.Bonding.{set_fits}
-use Rattle.law_soundness.proofs.Creating.{stored_fits}
-use Rattle.law_soundness.proofs.Delegating.{delegated_fits}
-use Rattle.law_soundness.proofs.Lists.{from_mapped, looked_up}
-use Rattle.law_soundness.proofs.Names.{known_none}
-use Rattle.law_soundness.proofs.Points.{SharedFits, StakeFits, StateFits, from_fits}
-use Rattle.law_soundness.proofs.Running.{runs_burn, runs_keep_soundness}
-use Rattle.law_soundness.proofs.Standing.{own_place}
-use Rattle.law_soundness.proofs.Steps.{and_also, from_if, on_lifted_then, on_then, weaker_if}
-use Rattle.rule_modules.proofs.GoingLemmas.{on_found}
-use Rattle.law_soundness.proofs.Transactions.{without_facts_fits}
-use Rattle.rule_modules.proofs.EntryLemmas.{from_all, to_all}
-use Rattle.rule_modules.proofs.OrderLemmas.{same_back}
-use Rattle.rule_modules.proofs.SoundLemmas.{none_sound}
-use Rattle.rule_modules.specs.BondedSet.{set_updated}
-use Rattle.rule_modules.specs.Chain.{Hooks, chain_told, staked_in, with_staked}
-use Rattle.rule_modules.specs.Distribution.{nothing_shared}
+use Rattle.rule_modules.specs.{Delegating.{pool, delegated}, BondedSet.set_updated}
+use Rattle.rule_modules.specs.{Chain.{Hooks, chain_told, staked_in, with_staked}, Distribution.nothing_shared}
 use Rattle.rule_modules.specs.Sound.{IsSound, RedelegationIsSound, RedelegationsAreSound, SigningIsSound, UnbondingIsSound, UnbondingsAreSound, WindowIsSound}
-use Rattle.rule_modules.specs.Window.{Signing}
+use Rattle.rule_modules.{specs.Window.Signing, proofs.{GoingLemmas.on_found, EntryLemmas.{from_all, to_all}}}
+use Rattle.rule_modules.proofs.{OrderLemmas.same_back, SoundLemmas.none_sound}
+use Rattle.base_coins.{proofs.{Amounts.is_equal, Order.same_name}, specs.Coins.{Money, amount_of}}
+use Rattle.law_soundness.proofs.{Burns.total_in, Bank.AreHeld, Bonding.set_fits, Creating.stored_fits}
+use Rattle.law_soundness.proofs.{Delegating.delegated_fits, Lists.{from_mapped, looked_up}, Names.known_none}
+use Rattle.law_soundness.proofs.Points.{SharedFits, StakeFits, StateFits, from_fits}
+use Rattle.law_soundness.proofs.{Running.{runs_burn, runs_keep_soundness}, Standing.own_place}
+use Rattle.law_soundness.proofs.Steps.{and_also, from_if, on_lifted_then, on_then, weaker_if}
+use Rattle.law_soundness.proofs.Transactions.{without_facts_fits}
 
 -- ---- the denominations
 

@@ -1,6 +1,5 @@
 -- What holds of the answer of steps, one after another, where they go on.
-use Rattle.std.proofs.Common.{Result, Ok, Err}
-use Rattle.std.specs.Prelude.{IfOk}
+use Rattle.std.proofs.Common.{Result, Ok, Err, IfOk}
 use Rattle.base_roles.specs.Flow.{◌>>=◌, stopping}
 pub use Rattle.rule_modules.proofs.GoingLemmas.{from_if, if_ok, weaker_if}
 

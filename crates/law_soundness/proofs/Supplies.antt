@@ -1,25 +1,15 @@
 -- Each atomic step lowers each supply by what its facts say was burned, and by nothing else.
-use Rattle.std.proofs.Common.{◌≡◌, Some, Result, refl}
-use Rattle.std.specs.Prelude.{Contains, IfOk}
+use Rattle.std.proofs.Common.{◌≡◌, Some, Result, refl, Contains, IfOk}
 use Rattle.std.proofs.lemmas.List.Elements.{recursion_from_All}
-use Rattle.base_roles.specs.Staked.{validator_by_cons}
-use Rattle.base_roles.specs.declared.entities.Validator.{Validator}
-use Rattle.law_soundness.proofs.Allocating.{allocation_fits}
-use Rattle.law_soundness.proofs.Bonding.{set_step_fits}
-use Rattle.law_soundness.proofs.Burns.{total_in}
-use Rattle.law_soundness.proofs.Creating.{create_fits}
-use Rattle.law_soundness.proofs.Delegating.{delegate_fits}
+use Rattle.base_roles.specs.{Staked.validator_by_cons, declared.entities.Validator.Validator}
+use Rattle.law_soundness.proofs.{Allocating.allocation_fits, Bonding.set_step_fits, Burns.total_in}
+use Rattle.law_soundness.proofs.{Creating.create_fits, Delegating.delegate_fits}
 use Rattle.law_soundness.proofs.Ending.{redelegations_fit, unbondings_fit}
-use Rattle.law_soundness.proofs.Leaving.{cancel_fits, to_whole, undelegate_fits}
-use Rattle.law_soundness.proofs.Maturing.{maturing_fits}
+use Rattle.law_soundness.proofs.{Leaving.{cancel_fits, to_whole, undelegate_fits}, Maturing.maturing_fits}
 use Rattle.law_soundness.proofs.Moves.{fee_fits, keeps_supplies, payee_fits, send_fits}
-use Rattle.law_soundness.proofs.Points.{StateFits, StateLeft, to_fits}
-use Rattle.law_soundness.proofs.Pool.{commission_fits, fund_fits, spend_fits}
-use Rattle.law_soundness.proofs.Redelegating.{redelegate_fits}
-use Rattle.law_soundness.proofs.Rewards.{reward_fits}
-use Rattle.law_soundness.proofs.Standing.{edit_fits, unjail_fits}
-use Rattle.law_soundness.proofs.Steps.{weaker_if}
-use Rattle.law_soundness.proofs.Updating.{updates_burn_nothing}
+use Rattle.law_soundness.proofs.{Points.{StateFits, StateLeft, to_fits}, Pool.{commission_fits, fund_fits, spend_fits}}
+use Rattle.law_soundness.proofs.{Redelegating.redelegate_fits, Rewards.reward_fits, Standing.{edit_fits, unjail_fits}}
+use Rattle.law_soundness.proofs.{Steps.weaker_if, Updating.updates_burn_nothing}
 use Rattle.law_soundness.proofs.Voting.{EvidenceLeft, VoteLeft, evidence_fits, vote_fits}
 use Rattle.rule_modules.specs.Chain.{State, allocation_step, evidence_step, maturing_step, redelegations_step, set_step, unbondings_step, vote_step}
 use Rattle.rule_modules.specs.Effects.{begin_redelegate, cancel_unbonding, community_pool_spend, create_validator, delegate, edit_validator, fee_paid, fund_community_pool, send, set_withdraw_address, undelegate, unjail, withdraw_commission, withdraw_reward}

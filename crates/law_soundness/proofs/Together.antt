@@ -4,17 +4,13 @@ use Rattle.law_soundness.specs.StepLaws.{IsSoundAfter}
 use Rattle.law_soundness.proofs.Moves.{fees_keep_soundness, sends_keep_soundness, payees_keep_soundness}
 use Rattle.law_soundness.proofs.Pool.{funding_keeps_soundness, spending_keeps_soundness, commissions_keep_soundness}
 use Rattle.law_soundness.proofs.Standing.{edits_keep_soundness, unjailing_keeps_soundness}
-use Rattle.law_soundness.proofs.Updating.{updating_keeps_soundness}
-use Rattle.law_soundness.proofs.Rewards.{rewards_keep_soundness}
-use Rattle.law_soundness.proofs.Delegating.{delegating_keeps_soundness}
-use Rattle.law_soundness.proofs.Creating.{creating_keeps_soundness}
+use Rattle.law_soundness.proofs.{Updating.updating_keeps_soundness, Rewards.rewards_keep_soundness}
+use Rattle.law_soundness.proofs.{Delegating.delegating_keeps_soundness, Creating.creating_keeps_soundness}
 use Rattle.law_soundness.proofs.Leaving.{undelegating_keeps_soundness, cancelling_keeps_soundness}
-use Rattle.law_soundness.proofs.Redelegating.{redelegating_keeps_soundness}
-use Rattle.law_soundness.proofs.Following.{next_block_keeps_soundness}
+use Rattle.law_soundness.proofs.{Redelegating.redelegating_keeps_soundness, Following.next_block_keeps_soundness}
 use Rattle.law_soundness.proofs.Allocating.{allocation_keeps_soundness}
 use Rattle.law_soundness.proofs.Voting.{votes_keep_soundness, evidence_keeps_soundness}
-use Rattle.law_soundness.proofs.Bonding.{bonding_keeps_soundness}
-use Rattle.law_soundness.proofs.Maturing.{maturing_keeps_soundness}
+use Rattle.law_soundness.proofs.{Bonding.bonding_keeps_soundness, Maturing.maturing_keeps_soundness}
 use Rattle.law_soundness.proofs.Ending.{unbondings_step_keeps_soundness, redelegations_step_keeps_soundness}
 
 by_messages : KeptByMessages IsSoundAfter

@@ -1,37 +1,21 @@
 -- Each message, and each transaction, keeps a state sound, whether it is refused or not.
-use Rattle.std.proofs.Common.{ℕ, ◌+◌, List, [], ◌∷◌, map, Result, Ok, Err, refl, ◌≡◌, arith}
-use Rattle.std.specs.Prelude.{All, Contains, IfOk, sum}
-use Rattle.std.proofs.lemmas.List.Elements.{All-head, All-tail}
-use Rattle.std.proofs.lemmas.List.Sums.{sum_by-cons}
-use Rattle.base_roles.specs.declared.params.Ctx.{Ctx}
-use Rattle.base_roles.specs.declared.refusal.Refusal.{Refusal}
-use Rattle.base_roles.specs.Ground.{SameMoment}
-use Rattle.base_roles.specs.Holdings.{supply_of}
+use Rattle.std.proofs.Common.{ℕ, ◌+◌, List, [], ◌∷◌, map, Result, Ok, Err, refl, ◌≡◌, arith, All, Contains, IfOk, sum}
+use Rattle.std.proofs.lemmas.List.{Elements.{All-head, All-tail}, Sums.sum_by-cons}
+use Rattle.base_roles.specs.{declared.{params.Ctx.Ctx, refusal.Refusal.Refusal}, Ground.SameMoment, Holdings.supply_of}
 use Rattle.base_roles.proofs.MomentLemmas.{same_moment, same_moment_twice}
-use Rattle.base_messages.specs.declared.block.Tx.{Tx}
-use Rattle.base_messages.specs.declared.message.Msg.{Msg}
-use Rattle.base_messages.specs.declared.report.TxReport.{TxReport}
+use Rattle.base_messages.specs.declared.{block.Tx.Tx, message.Msg.Msg, report.TxReport.TxReport}
 use Rattle.base_messages.specs.declared.message.Msg.TheVariants as msg
-use Rattle.rule_machine.specs.GenesisState.{without_facts}
-use Rattle.rule_machine.specs.Machine.{TxSteps, reported_as, tx_applied, txs_applied}
-use Rattle.rule_machine.specs.Messages.{effect_of}
-use Rattle.rule_machine.specs.Promises.{MessageHasCoins, TxHasCoins}
-use Rattle.law_soundness.proofs.Burns.{total_in}
-use Rattle.law_soundness.proofs.Creating.{create_fits}
-use Rattle.law_soundness.proofs.Delegating.{delegate_fits}
+use Rattle.rule_machine.specs.{GenesisState.without_facts, Machine.{TxSteps, reported_as, tx_applied, txs_applied}}
+use Rattle.rule_machine.specs.{Messages.effect_of, Promises.{MessageHasCoins, TxHasCoins}}
+use Rattle.law_soundness.proofs.{Burns.total_in, Creating.create_fits, Delegating.delegate_fits}
 use Rattle.law_soundness.proofs.Leaving.{cancel_fits, to_whole, undelegate_fits}
 use Rattle.law_soundness.proofs.Moves.{fee_fits, payee_fits, send_fits}
 use Rattle.law_soundness.proofs.Points.{AreAllWhole, MessageLeft, StateFits, StateLeft, at_moment, from_fits, to_fits}
-use Rattle.law_soundness.proofs.Pool.{commission_fits, fund_fits, spend_fits}
-use Rattle.law_soundness.proofs.Redelegating.{redelegate_fits}
-use Rattle.law_soundness.proofs.Rewards.{reward_fits}
-use Rattle.law_soundness.proofs.Standing.{edit_fits, unjail_fits}
-use Rattle.law_soundness.proofs.Steps.{on_lifted_then, weaker_if}
-use Rattle.law_soundness.proofs.Updating.{update_fits}
+use Rattle.law_soundness.proofs.{Pool.{commission_fits, fund_fits, spend_fits}, Redelegating.redelegate_fits}
+use Rattle.law_soundness.proofs.{Rewards.reward_fits, Standing.{edit_fits, unjail_fits}}
+use Rattle.law_soundness.proofs.{Steps.{on_lifted_then, weaker_if}, Updating.update_fits}
 use Rattle.law_soundness.specs.StepLaws.{IsSoundAfter, MessagesKeepSoundness, TransactionsKeepSoundness}
-use Rattle.rule_modules.specs.Chain.{State}
-use Rattle.rule_modules.specs.Laws.{burned_in}
-use Rattle.rule_modules.specs.Effects.{after_fee, effects_of, fee_paid, stands_or_fee}
+use Rattle.rule_modules.specs.{Chain.State, Laws.burned_in, Effects.{after_fee, effects_of, fee_paid, stands_or_fee}}
 
 module _ (P : List ℕ → Type 0) (T : List ℕ → ℕ) where
   -- a state that fits, where no entry of this block has lost anything

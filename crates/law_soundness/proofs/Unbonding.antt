@@ -1,47 +1,29 @@
 -- Unbonding shares: they leave the delegation and the validator, and the tokens that go out are owed to nobody's shares.
-use Rattle.std.proofs.Common.{◌≡◌, ◌∙◌, ℕ, ◌+◌, ◌^◌, ◌<◌, ◌≤◌, ◌==◌, ◌++◌, Bool, true, false, cond, List, [], ◌∷◌, Some, None, Ok, refl, sym, ap, subst, arith}
-use Rattle.std.specs.Prelude.{◌-◌, ◌&&◌, ◌||◌, not, if◌then◌else◌, IfOk, IsSome, is_some, unwrap_or}
-use Rattle.std.specs.BTreeMap.{is_at}
+use Rattle.std.proofs.Common.{◌≡◌, ◌∙◌, ℕ, ◌+◌, ◌^◌, ◌<◌, ◌≤◌, ◌==◌, ◌++◌, Bool, true, false, cond, List, [], ◌∷◌, Some, None, Ok, refl, sym, ap, subst, arith, ◌-◌, ◌&&◌, ◌||◌, not, if◌then◌else◌, IfOk, IsSome, is_some, unwrap_or}
+use Rattle.std.specs.{BTreeMap.is_at, List.Sorted.IsStrictlySortedBy, Map.keys_of}
 use Rattle.std.proofs.lemmas.Bool.Decides.{nat_tests}
-use Rattle.base_types.specs.declared.status.BondStatus.{BondStatus}
-use Rattle.base_types.specs.Orders.{addr_cmp}
-use Rattle.base_shares.proofs.Values.{value_whole_most}
-use Rattle.base_roles.specs.declared.entities.Validator.{Validator}
-use Rattle.base_roles.specs.declared.facts.Fact.TheVariants as fact
-use Rattle.base_roles.specs.Hooks.{with_started}
-use Rattle.base_roles.specs.Owing.{Lists}
-use Rattle.base_roles.specs.Log.{Log}
-use Rattle.base_roles.specs.Log as log
+use Rattle.base_types.specs.{declared.status.BondStatus.BondStatus, Orders.addr_cmp}
+use Rattle.base_shares.{proofs.Values.value_whole_most, specs.Shares.{amount_out, value_even_of}}
+use Rattle.base_roles.specs.{declared.entities.Validator.Validator, Hooks.with_started, Owing.Lists, Log.Log}
 use Rattle.base_roles.specs.World.{View, World, over_mine, logged, call, modifying, modified}
+use Rattle.base_roles.specs.{Entries.{at, number_at, with, with_number, without}, Orders.{pair_cmp, same_addr}}
+use Rattle.base_roles.specs.Staked.{Staked, bonded_tokens, is_bonded, is_unbonded, lists_of, other_tokens, delegation, validator_at, put_validator}
+use Rattle.base_roles.specs.{StakeChanges.of_bond, declared.params.Ctx.Ctx}
+use Rattle.base_roles.specs.declared.facts.Fact.TheVariants as fact
+use Rattle.base_roles.specs.Log as log
 use Rattle.rule_modules.specs.Distribution.{Shared}
 use Rattle.rule_modules.specs.Unbonding.{put_in_jail, falls_below_minimum, left_standing, unbonded_shares, removed_if_empty}
-use Rattle.std.specs.List.Sorted.{IsStrictlySortedBy}
-use Rattle.std.specs.Map.{keys_of}
+use Rattle.rule_modules.specs.{Chain.{Hooks, chain_told}, Sound.ValidatorIsSound}
+use Rattle.rule_modules.specs.{Stakes.{put_delegation, without_shares}, Window.signing_of}
+use Rattle.rule_modules.proofs.SoundLemmas.{found-put, IsSoundAt, at-number, exact_addr, found_itself, held_within, put_with, shares_at, sound-changed}
+use Rattle.rule_modules.proofs.{OrderLemmas.same_back, TokenLemmas.tokens-put}
 use Rattle.base_decimals.specs.Decimals.{trunc_of}
-use Rattle.base_roles.specs.Entries.{at, number_at, with, with_number, without}
-use Rattle.base_roles.specs.Orders.{pair_cmp, same_addr}
-use Rattle.base_roles.specs.Staked.{Staked, bonded_tokens, is_bonded, is_unbonded, lists_of, other_tokens, delegation, validator_at, put_validator}
-use Rattle.base_roles.specs.StakeChanges.{of_bond}
-use Rattle.base_roles.specs.declared.params.Ctx.{Ctx}
-use Rattle.rule_modules.proofs.SoundLemmas.{found-put}
-use Rattle.law_soundness.proofs.Burns.{quiet_behind}
-use Rattle.law_soundness.proofs.Hooking.{before_told, called_if, hook_gave, on_call, stake_hooks}
-use Rattle.law_soundness.proofs.Lists.{all_put, looked_up}
-use Rattle.law_soundness.proofs.Moves.{Leaves, stake_left}
-use Rattle.law_soundness.proofs.Points.{IsRecorded, StakeFits}
-use Rattle.law_soundness.proofs.Purses.{there_still}
-use Rattle.law_soundness.proofs.Removing.{StakeLeft, removed_if_fits}
+use Rattle.law_soundness.proofs.{Burns.quiet_behind, Hooking.{before_told, called_if, hook_gave, on_call, stake_hooks}}
+use Rattle.law_soundness.proofs.{Lists.{all_put, looked_up}, Moves.{Leaves, stake_left}, Points.{IsRecorded, StakeFits}}
+use Rattle.law_soundness.proofs.{Purses.there_still, Removing.{StakeLeft, removed_if_fits}}
 use Rattle.law_soundness.proofs.Rewards.{pair_at, start_leaves}
 use Rattle.law_soundness.proofs.Standing.{StandsFor, stake_logged, stake_relisted, stake_standing, stake_told}
 use Rattle.law_soundness.proofs.Steps.{on_then}
-use Rattle.rule_modules.proofs.OrderLemmas.{same_back}
-use Rattle.rule_modules.proofs.SoundLemmas.{IsSoundAt, at-number, exact_addr, found_itself, held_within, put_with, shares_at, sound-changed}
-use Rattle.rule_modules.proofs.TokenLemmas.{tokens-put}
-use Rattle.rule_modules.specs.Chain.{Hooks, chain_told}
-use Rattle.rule_modules.specs.Sound.{ValidatorIsSound}
-use Rattle.rule_modules.specs.Stakes.{put_delegation, without_shares}
-use Rattle.rule_modules.specs.Window.{signing_of}
-use Rattle.base_shares.specs.Shares.{amount_out, value_even_of}
 
 -- ---- amounts
 

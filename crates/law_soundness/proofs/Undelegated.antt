@@ -1,43 +1,29 @@
 -- Undelegating is refused by the first of its conditions that holds: in a sound state unbonding is over only where the hook
 -- before it is.
-use Rattle.std.proofs.Common.{◌≡◌, ◌∙◌, ℕ, ◌==◌, ◌≤◌, Bool, true, false, List, [], ◌∷◌, ◌++◌, length, Option, Some, None, Result, Ok, Err, refl, sym, ap, arith}
-use Rattle.std.specs.Prelude.{Contains, ◌-◌, if◌then◌else◌, is_none, is_some, nat_le, nat_lt, option_map, unwrap_or}
+use Rattle.std.proofs.Common.{◌≡◌, ◌∙◌, ℕ, ◌==◌, ◌≤◌, Bool, true, false, List, [], ◌∷◌, ◌++◌, length, Option, Some, None, Result, Ok, Err, refl, sym, ap, arith, Contains, ◌-◌, if◌then◌else◌, is_none, is_some, nat_le, nat_lt, option_map, unwrap_or}
 use Rattle.std.proofs.lemmas.Bool.Decides.{nat_tests}
-use Rattle.base_decimals.specs.declared.over.Over.{Over}
-use Rattle.base_decimals.specs.Decimals.{mul_int_quo_int_of}
+use Rattle.base_decimals.specs.{declared.over.Over.Over, Decimals.mul_int_quo_int_of}
 use Rattle.base_shares.specs.declared.fault.ShareFault.TheVariants as share
 use Rattle.base_shares.specs.Shares.{amount_out, or_over, shares_for_amount}
 use Rattle.base_types.specs.declared.account.Account.TheVariants as account
 use Rattle.base_types.specs.declared.account.Module.TheVariants as holder
-use Rattle.base_roles.specs.declared.entities.UnbondingEntry.{UnbondingEntry}
-use Rattle.base_roles.specs.declared.entities.Validator.{Validator}
+use Rattle.base_roles.specs.declared.entities.{UnbondingEntry.UnbondingEntry, Validator.Validator}
 use Rattle.base_roles.specs.declared.refusal.Refusal.{Refusal}
 use Rattle.base_roles.specs.declared.refusal.Refusal.TheVariants.{NoDelegation, NoTokens, NoValidator, NonPositive, Overflow, TooManyShares, UnbondingsFull, WrongDenom}
-use Rattle.base_roles.specs.Hooks.{with_started}
-use Rattle.base_roles.specs.Log.{Log}
-use Rattle.base_roles.specs.Pair.{and_then, given_with}
+use Rattle.base_roles.specs.{Hooks.with_started, Log.Log, Pair.{and_then, given_with}}
 use Rattle.base_roles.specs.Staked.{Staked, delegation, is_bonded, lists_of, validator_at}
 use Rattle.base_roles.specs.Flow.{◌>>=◌, ◌>>◌, or_stop, stop_if, stopping}
 use Rattle.base_roles.specs.World.{Told, View, World, call, exceeds, gives, hooked, modified, modifying, over_mine, over_view, sent}
-use Rattle.law_soundness.proofs.Burns.{total_in}
-use Rattle.law_soundness.proofs.Giving.{Gives, gives_on, removed_gives}
-use Rattle.law_soundness.proofs.Hooking.{IfTold, before_told, hook_gave, stake_hooks}
-use Rattle.law_soundness.proofs.Moves.{Leaves}
-use Rattle.law_soundness.proofs.Points.{StakeFits, StateFits, to_fits}
-use Rattle.law_soundness.proofs.Standing.{own_place}
-use Rattle.law_soundness.proofs.Steps.{from_if}
+use Rattle.law_soundness.proofs.{Burns.total_in, Giving.{Gives, gives_on, removed_gives}}
+use Rattle.law_soundness.proofs.{Hooking.{IfTold, before_told, hook_gave, stake_hooks}, Moves.Leaves}
+use Rattle.law_soundness.proofs.{Points.{StakeFits, StateFits, to_fits}, Standing.own_place, Steps.from_if}
 use Rattle.law_soundness.proofs.Unbonding.{HasLeft, left_fits, less_of, lessened, lessened_fits, may_jail, now_of, stood_fits}
 use Rattle.law_soundness.specs.StepLaws.{UndelegationsNameConditions}
-use Rattle.rule_modules.proofs.RefusalLemmas.{mapped, stop_step}
-use Rattle.rule_modules.proofs.SoundLemmas.{found_itself}
-use Rattle.rule_modules.specs.Amounts.{bond_coins}
+use Rattle.rule_modules.{proofs.{RefusalLemmas.{mapped, stop_step}, SoundLemmas.found_itself}, specs.Amounts.bond_coins}
 use Rattle.rule_modules.specs.Chain.{Hooks, State, chain_told, staked_in, with_staked}
 use Rattle.rule_modules.specs.Conditions.{after_hook, are_above, first_of, over_in, when}
-use Rattle.rule_modules.specs.Delegating.{hook_before, is_wrong}
-use Rattle.rule_modules.specs.Distribution.{Shared, distribution_told}
-use Rattle.rule_modules.specs.Owed.{entry_balances}
-use Rattle.rule_modules.specs.RefusalOrder.{refused_in}
-use Rattle.rule_modules.specs.Stakes.{put_delegation, without_shares}
+use Rattle.rule_modules.specs.{Delegating.{hook_before, is_wrong}, Distribution.{Shared, distribution_told}}
+use Rattle.rule_modules.specs.{Owed.entry_balances, RefusalOrder.refused_in, Stakes.{put_delegation, without_shares}}
 use Rattle.rule_modules.specs.Unbonding.{left_standing, removed_if_empty, shares_to_unbond, unbonded_shares}
 use Rattle.rule_modules.specs.Unbondings.{UnbondingLists, completion, entries_of, grown, undelegated, with_entries}
 use Rattle.rule_modules.specs.Window.{window_told}

@@ -1,29 +1,19 @@
 -- Replacing the parameters keeps a state sound: what never changes of them is what the accounts owe in, and of no signing record
 -- are more votes counted.
-use Rattle.std.proofs.Common.{◌≡◌, ◌∙◌, ℕ, ◌+◌, ◌^◌, ◌<◌, ◌≤◌, cond, List, length, Option, Some, None, refl, sym, ap, subst, arith}
-use Rattle.std.specs.Prelude.{Contains, IfOk, IsSome, option_map, map}
-use Rattle.std.specs.BTreeMap.{is_at}
-use Rattle.std.specs.List.{AllByRecursion}
-use Rattle.std.specs.List.Sorted.{IsStrictlySortedBy}
+use Rattle.std.proofs.Common.{◌≡◌, ◌∙◌, ℕ, ◌+◌, ◌^◌, ◌<◌, ◌≤◌, cond, List, length, Option, Some, None, refl, sym, ap, subst, arith, Contains, IfOk, IsSome, option_map, map}
+use Rattle.std.specs.{BTreeMap.is_at, List.{AllByRecursion, Sorted.IsStrictlySortedBy}}
 use Rattle.std.proofs.lemmas.List.Elements.{recursion_from_All, All-from_recursion}
 use Rattle.base_types.specs.Orders.{cons_cmp, denom_cmp}
 use Rattle.base_roles.specs.declared.facts.Fact.TheVariants as fact
-use Rattle.base_roles.specs.declared.params.Params.{Params}
-use Rattle.base_roles.specs.Holdings.{supply_of}
-use Rattle.base_roles.specs.Ranges.{out_of_range}
-use Rattle.base_roles.specs.Staked.{bonded_tokens, other_tokens}
-use Rattle.base_roles.proofs.RangeLemmas.{in_range}
-use Rattle.law_soundness.proofs.Burns.{quiet_behind, total_in}
-use Rattle.law_soundness.proofs.Lists.{mapped_all, weaker}
-use Rattle.law_soundness.proofs.Points.{IsRecorded, MessageLeft, StateFits, from_fits, to_fits}
-use Rattle.law_soundness.proofs.Steps.{weaker_if}
+use Rattle.base_roles.specs.{declared.params.Params.Params, Holdings.supply_of, Ranges.out_of_range}
+use Rattle.base_roles.{specs.Staked.{bonded_tokens, other_tokens}, proofs.RangeLemmas.in_range}
+use Rattle.law_soundness.proofs.{Burns.{quiet_behind, total_in}, Lists.{mapped_all, weaker}}
+use Rattle.law_soundness.proofs.{Points.{IsRecorded, MessageLeft, StateFits, from_fits, to_fits}, Steps.weaker_if}
 use Rattle.law_soundness.specs.StepLaws.{IsSoundAfter, UpdatingKeepsSoundness}
 use Rattle.rule_modules.proofs.ParameterLemmas.{fixed_same, on_update, one_resized, resized_at, resized_each, resized_fewer, resized_keys, same_start}
-use Rattle.rule_modules.specs.Chain.{State}
-use Rattle.rule_modules.specs.Owed.{entry_balances}
+use Rattle.rule_modules.specs.{Chain.State, Owed.entry_balances}
 use Rattle.rule_modules.specs.Parameters.{fixed_changed, update_params, with_updated}
-use Rattle.rule_modules.specs.Sound.{SigningIsSound, WindowIsSound}
-use Rattle.rule_modules.specs.StepLaws.{SupplyFallsByBurns}
+use Rattle.rule_modules.specs.{Sound.{SigningIsSound, WindowIsSound}, StepLaws.SupplyFallsByBurns}
 use Rattle.rule_modules.specs.Window.{Signing, Window, signing_of, window_resized}
 
 -- ---- signing records

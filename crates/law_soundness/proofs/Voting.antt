@@ -1,38 +1,23 @@
 -- Votes and evidence keep a state sound.
-use Rattle.std.proofs.Common.{◌≡◌, ◌∙◌, ℕ, ◌<◌, Bool, true, false, cond, List, [], ◌∷◌, ◌++◌, length, Some, None, Option, refl, sym, ap, subst, arith}
-use Rattle.std.specs.Prelude.{◌-◌, not, IfOk, IsSome, Contains}
-use Rattle.std.specs.BTreeMap.{is_at}
-use Rattle.std.proofs.lemmas.List.Elements.{All-from_recursion, recursion_from_All}
+use Rattle.std.proofs.Common.{◌≡◌, ◌∙◌, ℕ, ◌<◌, Bool, true, false, cond, List, [], ◌∷◌, ◌++◌, length, Some, None, Option, refl, sym, ap, subst, arith, ◌-◌, not, IfOk, IsSome, Contains}
+use Rattle.std.{specs.BTreeMap.is_at, proofs.lemmas.List.Elements.{All-from_recursion, recursion_from_All}}
 use Rattle.base_types.specs.Orders.{cons_cmp}
-use Rattle.base_roles.specs.declared.entities.Validator.{Validator}
+use Rattle.base_roles.specs.declared.{entities.Validator.Validator, messages.{Evidence.Evidence, Vote.Vote}}
+use Rattle.base_roles.specs.{Lent.jail_told, World.{World, noted, over_view}, Entries.with}
+use Rattle.base_roles.specs.{Staked.{validator_by_cons, validator_at}, declared.facts.Fact.Fact}
 use Rattle.base_roles.specs.declared.facts.Fact.TheVariants as fact
-use Rattle.base_roles.specs.declared.messages.Evidence.{Evidence}
-use Rattle.base_roles.specs.declared.messages.Vote.{Vote}
-use Rattle.base_roles.specs.Lent.{jail_told}
-use Rattle.base_roles.specs.World.{World, noted, over_view}
 use Rattle.rule_modules.specs.Evidence.{window_bans, banned, banned_of, forever, jailed_if_not, equivocation_handled}
 use Rattle.rule_modules.specs.Slashing.{plain_slash, core_slashes}
-use Rattle.rule_modules.specs.Window.{Signing, Window, signing_of, reset_at, voted}
-use Rattle.base_roles.specs.Entries.{with}
-use Rattle.base_roles.specs.Staked.{validator_by_cons, validator_at}
-use Rattle.base_roles.specs.declared.facts.Fact.{Fact}
-use Rattle.law_soundness.proofs.Burns.{total_in, SayNoMore, quiet_behind}
-use Rattle.law_soundness.proofs.Allocating.{found_by_cons}
-use Rattle.law_soundness.proofs.Lists.{all_put, looked_up, weaker}
-use Rattle.law_soundness.proofs.Points.{IsRecorded, StateFits, from_fits, to_fits}
-use Rattle.law_soundness.proofs.Standing.{stake_told, state_standing}
-use Rattle.law_soundness.proofs.Steps.{on_then, weaker_if}
-use Rattle.law_soundness.specs.StepLaws.{EvidenceKeepsSoundness, IsSoundAfter, VotesKeepSoundness}
-use Rattle.rule_modules.proofs.EntryLemmas.{ascend-put, at-put}
-use Rattle.rule_modules.proofs.OrderLemmas.{cons_total}
-use Rattle.rule_modules.proofs.SoundLemmas.{exact_addr}
-use Rattle.rule_modules.specs.Amounts.{over_facts}
+use Rattle.rule_modules.specs.{Window.{Signing, Window, signing_of, reset_at, voted}, Amounts.over_facts}
 use Rattle.rule_modules.specs.Chain.{Stakes, State, beside_window, evidence_step, staked_in, vote_step, with_window}
-use Rattle.rule_modules.specs.Distribution.{Shared, distribution_told}
-use Rattle.rule_modules.specs.Sound.{SigningIsSound, WindowIsSound}
-use Rattle.law_soundness.proofs.Entries.{PairsFit}
+use Rattle.rule_modules.specs.{Distribution.{Shared, distribution_told}, Sound.{SigningIsSound, WindowIsSound}}
+use Rattle.rule_modules.proofs.{EntryLemmas.{ascend-put, at-put}, OrderLemmas.cons_total, SoundLemmas.exact_addr}
 use Rattle.rule_modules.proofs.SlashParts.{GoesThroughPunishing, evidence_leaves, punished_goes, after_jailing, slash_jail_goes, vote_leaves}
+use Rattle.law_soundness.proofs.{Burns.{total_in, SayNoMore, quiet_behind}, Allocating.found_by_cons}
+use Rattle.law_soundness.proofs.{Lists.{all_put, looked_up, weaker}, Points.{IsRecorded, StateFits, from_fits, to_fits}}
+use Rattle.law_soundness.proofs.{Standing.{stake_told, state_standing}, Steps.{on_then, weaker_if}, Entries.PairsFit}
 use Rattle.law_soundness.proofs.Punishing.{StaysSound, slashes_stay_sound}
+use Rattle.law_soundness.specs.StepLaws.{EvidenceKeepsSoundness, IsSoundAfter, VotesKeepSoundness}
 
 -- a record is put at a consensus address
 record_put : (height : ℕ) (cons : List ℕ) (s : Signing) (i : Window) → WindowIsSound height i → SigningIsSound height s → WindowIsSound height (with cons_cmp i cons s)

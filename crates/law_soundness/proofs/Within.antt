@@ -1,12 +1,8 @@
 -- A delegation has some shares, and no more than its validator.
-use Rattle.std.proofs.Common.{◌≡◌, ℕ, ◌<◌, ◌≤◌, List, Some, ap, arith}
-use Rattle.std.specs.Prelude.{unwrap_or}
-use Rattle.base_roles.specs.declared.entities.Validator.{Validator}
-use Rattle.base_roles.specs.Entries.{number_at}
-use Rattle.base_roles.specs.Orders.{pair_cmp}
+use Rattle.std.proofs.Common.{◌≡◌, ℕ, ◌<◌, ◌≤◌, List, Some, ap, arith, unwrap_or}
+use Rattle.base_roles.specs.{declared.entities.Validator.Validator, Entries.number_at, Orders.pair_cmp}
 use Rattle.base_roles.specs.Staked.{Staked, delegation, validator_at}
-use Rattle.rule_modules.proofs.SoundLemmas.{held_within, to_points}
-use Rattle.rule_modules.specs.Sound.{StakedIsSound}
+use Rattle.rule_modules.{proofs.SoundLemmas.{held_within, to_points}, specs.Sound.StakedIsSound}
 
 pub shares_within : (height : ℕ) (s : Staked) (who operator : List ℕ) (v : Validator) (shares : ℕ) → StakedIsSound height s → validator_at s operator ≡ Some v → delegation s who operator ≡ Some shares → shares ≤ v.shares
 shares_within height s who operator v shares h found held =

@@ -1,42 +1,26 @@
 -- Values are read from what is written of them: numbers, names and addresses; and whole trees, whose texts are UTF-8.
-use Rattle.std.specs.Result.{result_ok}
-use Rattle.std.specs.List.{AllByRecursion}
-use Rattle.std.specs.Str.{IsUtf8}
-use Rattle.std.proofs.Common.{◌≡◌, ℕ, zero, suc, ◌+◌, ◌/◌, ◌%◌, ◌^◌, ◌<◌, ◌≤◌, ◌==◌, ◌&&◌, nat_lt, Bool, true, false, List, [], ◌∷◌, ◌++◌, All, map, cond, Some, None, Option, option_and_then, Result, Ok, decimal, refl, ap, ◌∙◌, arith, ltb-true}
-use Rattle.std.proofs.lemmas.Bool.{and_parts}
+use Rattle.std.{specs.{Result.result_ok, List.AllByRecursion}, proofs.lemmas.Bool.and_parts}
 use Rattle.std.proofs.lemmas.Fmt.{decimal_is_IsNumeral_wide, length-decimal-le_wide, IsAscii-decimal}
-use Rattle.std.proofs.lemmas.List.Elements.{All-append, All-cons, All-nil}
-use Rattle.std.proofs.lemmas.Str.{IsUtf8-append, IsUtf8-from_ascii}
+use Rattle.std.proofs.lemmas.{List.Elements.{All-append, All-cons, All-nil}, Str.{IsUtf8-append, IsUtf8-from_ascii}}
 use Rattle.std.proofs.lemmas.Str.Ascii.{IsAscii-from_all}
-use Rattle.json.proofs.Printed.Utf8.{are_ascii, IsUtf8-are_ascii, IsUtf8-quoted}
-use Rattle.json.specs.Print.{quoted}
+use Rattle.std.proofs.Common.{IsUtf8, ◌≡◌, ℕ, zero, suc, ◌+◌, ◌/◌, ◌%◌, ◌^◌, ◌<◌, ◌≤◌, ◌==◌, ◌&&◌, nat_lt, Bool, true, false, List, [], ◌∷◌, ◌++◌, All, map, cond, Some, None, Option, option_and_then, Result, Ok, decimal, refl, ap, ◌∙◌, arith, ltb-true}
+use Rattle.json.{proofs.Printed.Utf8.{are_ascii, IsUtf8-are_ascii, IsUtf8-quoted}, specs.Print.quoted}
 use Rattle.serde_json.specs.Data.{Data, boolean, number, unsigned, string, array, object, Items, no_items, item, Members, no_members, member, put}
-use Rattle.serde_json.specs.Find.{get, as_array}
-use Rattle.serde_json.specs.Read.{max_depth}
-use Rattle.serde_json.specs.View.{items_of}
+use Rattle.serde_json.specs.{Find.{get, as_array}, Read.max_depth, View.items_of}
 use Rattle.serde_json.specs.Written.{compact_text, comma_if, items_text, members_text}
 use Rattle.base_decimals.proofs.Inverse.{number_some}
-use Rattle.base_types.specs.Address.{IsAddress}
-use Rattle.base_types.specs.Calendar.{date_of, end_of_time}
-use Rattle.base_types.specs.Denom.{denom_of, is_denom}
+use Rattle.base_types.specs.{Address.IsAddress, Calendar.{date_of, end_of_time}, Denom.{denom_of, is_denom}}
 use Rattle.base_types.specs.Modules.{module_of, user_from, user_or_none}
 use Rattle.base_types.specs.Moment.{clock_text, date_text, digits, fraction_text, moment_text, two}
-use Rattle.base_types.proofs.AddressLemmas.{address_of-address_text}
-use Rattle.base_types.proofs.DateLemmas.{bounds_of, date_of-is}
-use Rattle.base_types.proofs.DigitLemmas.{address_text_is_utf8}
-use Rattle.base_types.proofs.MomentLemmas.{quotient_below, rest_below}
-use Rattle.base_bech32.specs.declared.form.Form.{Form}
-use Rattle.base_bech32.specs.declared.form.Form.TheVariants.{Hex, Bech32}
-use Rattle.base_bech32.specs.Spelling.{is_prefix}
+use Rattle.base_types.proofs.{AddressLemmas.address_of-address_text, DateLemmas.{bounds_of, date_of-is}}
+use Rattle.base_types.proofs.{DigitLemmas.address_text_is_utf8, MomentLemmas.{quotient_below, rest_below}}
+use Rattle.base_bech32.specs.{declared.form.Form.{Form, TheVariants.{Hex, Bech32}}, Spelling.is_prefix}
 use Rattle.base_bech32.proofs.SpellingLemmas.{spelling_is_ascii, spelling_is_read}
 use Rattle.base_coins.specs.Steps.{◌>>=◌}
-use Rattle.base_messages.specs.declared.faults.LineFault.{LineFault}
-use Rattle.base_messages.specs.declared.faults.LineFault.TheVariants.{BadShape}
+use Rattle.base_messages.specs.declared.faults.LineFault.{LineFault, TheVariants.BadShape}
 use Rattle.line_json.specs.Addresses.{account_prefix, bytes_in, bytes_text, operator_in, operator_prefix, operator_text, user_in, user_text}
-use Rattle.line_json.specs.Members.{amount_of, member_at}
-use Rattle.line_json.specs.Nested.{each_element, list_at, with_front}
-use Rattle.line_json.specs.Reading.{or_fault, tree_of}
-use Rattle.line_json.proofs.ReadingLemmas.{are_digits_model, tree_found}
+use Rattle.line_json.specs.{Members.{amount_of, member_at}, Nested.{each_element, list_at, with_front}}
+use Rattle.line_json.{specs.Reading.{or_fault, tree_of}, proofs.ReadingLemmas.{are_digits_model, tree_found}}
 use Rattle.line_json.proofs.WrittenLemmas.{AreElements, AreMembers, IsPlain, array_plain, count_plain, deeper, no_element, no_member, object_plain, one_element, one_member, read_written, string_plain}
 
 -- ---- numbers and names

@@ -1,23 +1,14 @@
 -- The amounts of coins that were read are below 10^38.
-use Rattle.std.proofs.Common.{◌≡◌, ◌^◌, ◌<◌, ℕ, List, [], ◌∷◌, length, Bool, true, false, nat_lt, nat_le, ◌&&◌, if◌then◌else◌, Option, Some, None, option_and_then, Result, Ok, Err, refl, rules, codes}
-use Rattle.std.specs.Prelude.{⊤, All, IfOk, IfSome}
-use Rattle.std.specs.Char.{is_ascii_digit}
-use Rattle.std.specs.List.{list_all}
-use Rattle.std.specs.Str.Parse.{digits_value}
-use Rattle.std.proofs.lemmas.Bool.{and_parts, leb-true}
-use Rattle.std.proofs.lemmas.List.Elements.{All-cons}
-use Rattle.std.proofs.lemmas.Str.Parse.{digits_value_short}
-use Rattle.serde_json.specs.Data.{Data, Items, no_items, item}
-use Rattle.serde_json.specs.Find.{get, as_str, as_array}
+use Rattle.std.proofs.Common.{◌≡◌, ◌^◌, ◌<◌, ℕ, List, [], ◌∷◌, length, Bool, true, false, nat_lt, nat_le, ◌&&◌, if◌then◌else◌, Option, Some, None, option_and_then, Result, Ok, Err, refl, rules, codes, All, IfOk, IfSome, leb-true}
+use Rattle.std.specs.{Prelude.⊤, Char.is_ascii_digit, List.list_all, Str.Parse.digits_value}
+use Rattle.std.proofs.lemmas.{Bool.and_parts, List.Elements.All-cons, Str.Parse.digits_value_short}
+use Rattle.serde_json.specs.{Data.{Data, Items, no_items, item}, Find.{get, as_str, as_array}}
 use Rattle.base_decimals.specs.Texts.{is_number}
-use Rattle.base_coins.specs.Steps.{◌>>=◌}
-use Rattle.base_coins.specs.declared.coin.Coin.{Coin}
+use Rattle.base_coins.specs.{Steps.{◌>>=◌}, declared.coin.Coin.Coin}
 use Rattle.base_messages.specs.declared.faults.LineFault.{LineFault}
 use Rattle.line_json.specs.Reading.{or_fault}
 use Rattle.line_json.specs.Members.{amount_of, spelled_by, member_at, denom_at, amount_at, only_named}
-use Rattle.line_json.specs.Nested.{each_element, list_at}
-use Rattle.line_json.specs.Coin.{coin_of}
-use Rattle.line_json.proofs.ReadingLemmas.{are_digits_model}
+use Rattle.line_json.{specs.{Nested.{each_element, list_at}, Coin.coin_of}, proofs.ReadingLemmas.are_digits_model}
 
 abbrev Below : ℕ → Type 0
 Below n = n < 10 ^ 38

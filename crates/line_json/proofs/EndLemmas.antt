@@ -1,13 +1,10 @@
 -- No byte of compact text ends a line, so a text is cut into the lines that it was made of.
-use Rattle.std.specs.Fmt.{digits, digits_onto, digit_glyph}
-use Rattle.std.proofs.Common.{◌≡◌, ℕ, zero, suc, ◌+◌, ◌/◌, ◌%◌, ◌<◌, ◌≤◌, ◌==◌, pos, negsuc, List, [], ◌∷◌, ◌++◌, Bool, true, false, not, ◌&&◌, cond, decimal, inl, inr, refl, sym, ap, ◌∙◌, arith, append_assoc, append-nil}
-use Rattle.std.proofs.lemmas.Bool.{and_parts, cases_eq, cases_lt, lt-ltb, ne_eqb}
-use Rattle.json.specs.Print.{escape_byte, escape, quoted}
-use Rattle.json.proofs.Printed.Strings.{escape_byte_plain}
+use Rattle.std.{specs.Fmt.{digits, digits_onto, digit_glyph}, proofs.lemmas.Bool.{and_parts, cases_eq, cases_lt}}
+use Rattle.std.proofs.Common.{◌≡◌, ℕ, zero, suc, ◌+◌, ◌/◌, ◌%◌, ◌<◌, ◌≤◌, ◌==◌, pos, negsuc, List, [], ◌∷◌, ◌++◌, Bool, true, false, not, ◌&&◌, cond, decimal, inl, inr, refl, sym, ap, ◌∙◌, arith, append_assoc, append-nil, lt-ltb, ne_eqb}
+use Rattle.json.{specs.Print.{escape_byte, escape, quoted}, proofs.Printed.Strings.escape_byte_plain}
 use Rattle.serde_json.specs.Data.{Num, unsigned, negative, float, Data, null, boolean, number, string, array, object, Items, no_items, item, Members, no_members, member}
 use Rattle.serde_json.specs.Written.{compact_text, items_text, members_text, comma_if, number_text}
-use Rattle.line_json.specs.Line.{line_of}
-use Rattle.line_json.specs.Lines.{lines_from, lines_of}
+use Rattle.line_json.specs.{Line.line_of, Lines.{lines_from, lines_of}}
 
 -- no byte ends a line
 abbrev pub has_no_end : List ℕ → Bool

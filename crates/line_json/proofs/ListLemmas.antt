@@ -1,7 +1,6 @@
 -- The elements of a list in turn, as `at` answers them.
 use Rattle.std.proofs.Common.{◌≡◌, sym, ℕ, suc, ◌+◌, ◌<◌, List, [], ◌∷◌, drop, length, Some, None, slice_get, refl, arith, get_or}
-use Rattle.std.proofs.Math.Seq.{drop-cons}
-use Rattle.std.proofs.lemmas.Option.{slice_get_within, get_or_from_slice_get, slice_get-get_or}
+use Rattle.std.proofs.{Math.Seq.drop-cons, lemmas.Option.{slice_get_within, get_or_from_slice_get, slice_get-get_or}}
 
 pub drop_next : {X : Type 0} (xs : List X) (place : ℕ) (x : X) → Some x ≡ slice_get xs place → drop place xs ≡ x ∷ drop (place + 1) xs
 drop_next xs place x h =

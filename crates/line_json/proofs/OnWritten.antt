@@ -1,7 +1,5 @@
 -- What an answer unfolds to compute written lines on literals.
-use Rattle.std.specs.Prelude.{⊤}
-use Rattle.std.specs.Fmt.{digits}
-use Rattle.std.specs.Str.{is_utf8, chars}
+use Rattle.std.specs.{Prelude.⊤, Fmt.digits, Str.{is_utf8, chars}}
 use Rattle.serde_json.proofs.OnLiterals.{serde_json_on_literals}
 use Rattle.base_types.proofs.OnLiterals.{types_on_literals}
 

@@ -1,10 +1,9 @@
 -- What a place of a tape answers is what the tree there answers.
 use Rattle.std.proofs.Common.{◌≡◌, ℕ, Bool, true, false, ◌&&◌, List, ◌∷◌, Option, Some, None, option_map, option_and_then, refl, sym, ap, ◌∙◌, subst}
-use Rattle.json.specs.Token.{Token}
+use Rattle.json.specs.{Token.Token, Find.{BeginsWith, InItems, InMembers, NextItem, NextMember, Finds}}
+use Rattle.json.proofs.Found.{not_found, Some_inj}
 use Rattle.json.specs.Json as json
 use Rattle.json.specs.Find as find
-use Rattle.json.specs.Find.{BeginsWith, InItems, InMembers, NextItem, NextMember, Finds}
-use Rattle.json.proofs.Found.{not_found, Some_inj}
 use Rattle.serde_json.specs.Data.{Data, null, boolean, number, string, array, object, Items, no_items, item, no_members}
 use Rattle.serde_json.specs.Find.{get, as_bool, as_number, as_u64, as_str, as_array, as_object}
 use Rattle.serde_json.specs.Read.{number_of, of_json, of_items, of_members}

@@ -1,27 +1,17 @@
 -- The tree of a line, the keys of an object, and amounts.
-use Rattle.std.proofs.Common.{◌≡◌, List, [], ◌∷◌, String, Global, string_bytes, map, ℕ, Bool, true, false, refl, Some, None, Result, Ok, Err, cond, ◌≤◌, ◌<◌, length, nat_lt, nat_le, ◌&&◌, arith, rules}
-use Rattle.std.specs.Str.{IsUtf8, is_utf8}
-use Rattle.std.specs.Str.Parse.{ParsesUnsigned, digits_value}
-use Rattle.std.specs.Char.{is_ascii_digit}
-use Rattle.std.specs.List.{list_all, list_any}
-use Rattle.std.specs.Map.{keys_of}
+use Rattle.std.proofs.Common.{◌≡◌, List, [], ◌∷◌, String, Global, string_bytes, map, ℕ, Bool, true, false, refl, Some, None, Result, Ok, Err, cond, ◌≤◌, ◌<◌, length, nat_lt, nat_le, ◌&&◌, arith, rules, IsUtf8, leb-true, sym, ap, ◌∙◌, subst}
+use Rattle.std.specs.{Str.{is_utf8, Parse.{ParsesUnsigned, digits_value}}, Char.is_ascii_digit}
+use Rattle.std.specs.{List.{list_all, list_any}, Map.keys_of}
 use Rattle.std.proofs.lemmas.Str.{is_utf8-from_IsUtf8, IsUtf8-from_is_utf8}
 use Rattle.std.proofs.lemmas.Str.Parse.{IsNumeralModel, numerals_by_value, parse_gives, digits_value_short}
-use Rattle.std.proofs.lemmas.Bool.{and_parts, leb-true}
-use Rattle.serde_json.specs.Data.{Data}
-use Rattle.serde_json.specs.Read.{read}
-use Rattle.serde_json.specs.View.{members_view}
-use Rattle.serde_json.specs.declared.value.Value.{Value}
+use Rattle.std.proofs.lemmas.Bool.{and_parts}
+use Rattle.serde_json.specs.{Data.Data, Read.read, View.members_view, declared.value.Value.Value}
 use Rattle.base_decimals.specs.Texts.{is_number}
-use Rattle.base_messages.specs.declared.faults.LineFault.TheVariants.{NotJson, BadShape, NoMemory}
-use Rattle.base_messages.specs.declared.faults.LineFault.{LineFault}
-use Rattle.line_json.specs.Reading.{tree_of, or_fault, Fails, Gives}
-use Rattle.line_json.specs.Members.{is_among, are_among}
-use Rattle.std.proofs.Common.{sym, ap, ◌∙◌, subst}
+use Rattle.base_messages.specs.declared.faults.LineFault.{LineFault, TheVariants.{NotJson, BadShape, NoMemory}}
+use Rattle.line_json.specs.{Reading.{tree_of, or_fault, Fails, Gives}, Members.{is_among, are_among}}
+use Rattle.line_json.{specs.Tape.{Spells, tree_at}, proofs.TapeLemmas.tree_at-Spells}
 use Rattle.json.specs.Token.{Token}
 use Rattle.base_coins.specs.Steps.{◌>>=◌}
-use Rattle.line_json.specs.Tape.{Spells, tree_at}
-use Rattle.line_json.proofs.TapeLemmas.{tree_at-Spells}
 
 pub tree_found : (line : List ℕ) (d : Data) → IsUtf8 line → read line ≡ Some d → tree_of line ≡ Ok d
 unfolding tree_of

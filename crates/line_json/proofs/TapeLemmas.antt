@@ -1,16 +1,11 @@
 -- A plain tape spells the tree that `serde_json` reads, and each place of it spells one tree.
-use Rattle.std.proofs.Common.{◌≡◌, ℕ, zero, suc, ◌+◌, ◌-◌, ◌^◌, ◌<◌, ◌≤◌, ◌&&◌, ◌==◌, nat_lt, Bool, true, false, List, [], ◌∷◌, ◌++◌, length, Option, Some, None, is_some, drop, Float, ℤ, option_map, option_and_then, refl, sym, ap, ◌∙◌, subst, arith, append_assoc, append-nil, length-append}
-use Rattle.std.specs.Prelude.{⊤, IsSome, slice_index, unwrap_or, if◌then◌else◌}
-use Rattle.std.proofs.lemmas.Bool.{and_parts, leb-true}
+use Rattle.std.proofs.Common.{◌≡◌, ℕ, zero, suc, ◌+◌, ◌-◌, ◌^◌, ◌<◌, ◌≤◌, ◌&&◌, ◌==◌, nat_lt, Bool, true, false, List, [], ◌∷◌, ◌++◌, length, Option, Some, None, is_some, drop, Float, ℤ, option_map, option_and_then, refl, sym, ap, ◌∙◌, subst, arith, append_assoc, append-nil, length-append, IsSome, slice_index, unwrap_or, if◌then◌else◌, leb-true}
+use Rattle.std.{specs.Prelude.⊤, proofs.lemmas.Bool.and_parts}
 use Rattle.fast_float.specs.Text.{minus, scan, digits_of}
-use Rattle.json.specs.Token.{Token}
-use Rattle.json.specs.Lex.{tokens}
+use Rattle.json.{specs.{Token.Token, Lex.tokens, Find.{BeginsWith, InItems}}, proofs.Grammar.closed_array}
+use Rattle.json.proofs.{Printed.Trees.value-json_tokens, Unique.Spelling.{value-json_tokens_back, tokens-document}}
 use Rattle.json.specs.Json as json
 use Rattle.json.specs.Tree as tree
-use Rattle.json.specs.Find.{BeginsWith, InItems}
-use Rattle.json.proofs.Grammar.{closed_array}
-use Rattle.json.proofs.Printed.Trees.{value-json_tokens}
-use Rattle.json.proofs.Unique.Spelling.{value-json_tokens_back, tokens-document}
 use Rattle.serde_json.specs.Data.{Num, unsigned, negative, float, Data, null, number, array, object, Items, item, Members, no_members, put}
 use Rattle.serde_json.specs.Find.{as_u64}
 use Rattle.serde_json.specs.Read.{is_integer, number_of, number_from, float_of, of_json, of_items, of_members, max_depth, read}

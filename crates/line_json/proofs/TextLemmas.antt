@@ -1,16 +1,9 @@
 -- The text of a decimal and the name of a denomination are ASCII.
-use Rattle.std.specs.Result.{IsOk}
-use Rattle.std.specs.Prelude.{◌&&◌, nat_le}
-use Rattle.std.specs.List.{list_all}
-use Rattle.std.proofs.lemmas.Bool.{and_parts}
-use Rattle.std.proofs.lemmas.Bool.Decides.{nat_tests}
-use Rattle.base_types.specs.Denom.{is_denom, is_denom_character, is_letter}
-use Rattle.std.proofs.Common.{take, length, refl, Result, Ok, Err, MatchResult, ◌≡◌, ℕ, zero, suc, ◌+◌, ◌<◌, ◌/◌, ◌%◌, ◌^◌, List, [], ◌∷◌, ◌++◌, Bool, true, false, arith, cond, ◌==◌, All}
-use Rattle.std.specs.Str.{IsUtf8}
-use Rattle.std.proofs.Math.Seq.{take-append_seam}
-use Rattle.std.proofs.lemmas.Str.{IsUtf8-from_ascii}
-use Rattle.std.proofs.lemmas.Str.Ascii.{IsAscii-from_all}
+use Rattle.std.proofs.Common.{IsOk, ◌&&◌, nat_le, take, length, refl, Result, Ok, Err, MatchResult, ◌≡◌, ℕ, zero, suc, ◌+◌, ◌<◌, ◌/◌, ◌%◌, ◌^◌, List, [], ◌∷◌, ◌++◌, Bool, true, false, arith, cond, ◌==◌, All, IsUtf8}
+use Rattle.std.{specs.List.list_all, proofs.{lemmas.Bool.{and_parts, Decides.nat_tests}, Math.Seq.take-append_seam}}
+use Rattle.std.proofs.lemmas.Str.{IsUtf8-from_ascii, Ascii.IsAscii-from_all}
 use Rattle.std.proofs.lemmas.List.Elements.{All-cons, All-append, All-nil, All-tail}
+use Rattle.base_types.specs.Denom.{is_denom, is_denom_character, is_letter}
 use Rattle.base_decimals.specs.Texts.{last_digits, without_zeros, dec_text}
 
 abbrev IsSmall : ℕ → Type 0

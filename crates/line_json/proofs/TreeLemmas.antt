@@ -1,18 +1,13 @@
 -- What is found on a tape is found in the tree that `serde_json` reads. A name may stand twice: the last value counts in both.
 use Rattle.std.proofs.Common.{◌≡◌, ℕ, Bool, true, false, ◌&&◌, cond, bytes_eq, List, Option, Some, None, Ordering, Less, Equal, Greater, option_and_then, is_eq, nat_cmp, refl, sym, ap, ◌∙◌}
-use Rattle.std.specs.Cmp.Lexicographic.{slice_cmp}
-use Rattle.std.specs.Ordering.{match_ordering}
-use Rattle.std.proofs.lemmas.Map.Text.{is_eq-slice_cmp}
+use Rattle.std.{specs.{Cmp.Lexicographic.slice_cmp, Ordering.match_ordering}, proofs.lemmas.Map.Text.is_eq-slice_cmp}
 use Rattle.std.proofs.lemmas.Slice.Eq.{bytes_eq-Decides}
 use Rattle.json.specs.Json as json
 use Rattle.json.specs.Find as find
 use Rattle.json.proofs.Found.{not_found, Some_inj}
-use Rattle.serde_json.specs.Data.{Data, Members, no_members, member, put}
-use Rattle.serde_json.specs.Find.{get_member}
-use Rattle.serde_json.specs.Read.{of_json, of_members}
+use Rattle.serde_json.specs.{Data.{Data, Members, no_members, member, put}, Find.get_member, Read.{of_json, of_members}}
 use Rattle.serde_json.proofs.Views.{get_member-put, get_member-put_other}
-use Rattle.line_json.specs.Members.{is_among, are_among}
-use Rattle.line_json.specs.Tape.{keys_among}
+use Rattle.line_json.specs.{Members.{is_among, are_among}, Tape.keys_among}
 
 -- ---- what is found by a name
 

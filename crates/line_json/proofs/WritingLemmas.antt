@@ -1,15 +1,9 @@
 -- What a writer has written after a value, a member or a line.
 use Rattle.std.proofs.Common.{◌≡◌, ◌∙◌, ap, subst, ℕ, ◌+◌, List, [], ◌∷◌, ◌++◌, map, drop, Some, slice_get, append_assoc}
-use Rattle.json.specs.Token.{Token}
-use Rattle.json.specs.Print.{print}
-use Rattle.json.specs.Tree.{items_tokens, members_tokens}
-use Rattle.serde_json.specs.Data.{Data, Members}
-use Rattle.serde_json.specs.View.{items_of}
-use Rattle.serde_json.specs.Written.{items_outline, members_outline}
+use Rattle.json.specs.{Token.Token, Print.print, Tree.{items_tokens, members_tokens}}
+use Rattle.serde_json.specs.{Data.{Data, Members}, View.items_of, Written.{items_outline, members_outline}}
 use Rattle.serde_json.proofs.Texts.{print-outline}
-use Rattle.line_json.specs.Line.{line_of}
-use Rattle.line_json.specs.Told.{data_tokens}
-use Rattle.line_json.proofs.ListLemmas.{drop_next}
+use Rattle.line_json.{specs.{Line.line_of, Told.data_tokens}, proofs.ListLemmas.drop_next}
 
 -- values of elements, with the end of their array
 abbrev pub values_tokens : {C : Type 0} → (C → Data) → List C → List Token

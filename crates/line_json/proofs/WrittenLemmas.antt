@@ -1,18 +1,14 @@
 -- Compact text of values without floats is read back as the value.
 use Rattle.std.proofs.Common.{◌≡◌, ℕ, suc, ◌^◌, ◌<◌, ◌≤◌, List, [], ◌∷◌, ◌++◌, map, Some, option_and_then, option_map, codes, decimal, refl, sym, ap, ◌∙◌, arith, append-nil}
-use Rattle.json.specs.Lex.{tokens}
-use Rattle.json.specs.Json as json
-use Rattle.json.specs.Tree.{json_tokens, HasNumbers, ItemsHaveNumbers, MembersHaveNumbers}
-use Rattle.json.specs.Tree as tree
-use Rattle.json.proofs.Printed.Decimals.{IsNumber-decimal}
-use Rattle.json.proofs.Printed.Tokens.{tokens-print}
+use Rattle.json.specs.{Lex.tokens, Tree.{json_tokens, HasNumbers, ItemsHaveNumbers, MembersHaveNumbers}}
+use Rattle.json.proofs.Printed.{Decimals.IsNumber-decimal, Tokens.tokens-print}
 use Rattle.json.proofs.Printed.Trees.{value-json_tokens, ArePrintable-json_tokens}
+use Rattle.json.specs.Json as json
+use Rattle.json.specs.Tree as tree
 use Rattle.serde_json.specs.Data.{Data, number, unsigned, string, array, object, Items, no_items, item, Members, no_members, member, put}
-use Rattle.serde_json.specs.Read.{read, max_depth, of_json, of_items, of_members}
-use Rattle.serde_json.specs.View.{items_of}
+use Rattle.serde_json.specs.{Read.{read, max_depth, of_json, of_items, of_members}, View.items_of}
 use Rattle.serde_json.specs.Written.{outline, items_outline, members_outline, compact_text}
-use Rattle.serde_json.proofs.Numbers.{number_of-decimal}
-use Rattle.serde_json.proofs.Texts.{print-outline}
+use Rattle.serde_json.proofs.{Numbers.number_of-decimal, Texts.print-outline}
 use Rattle.base_coins.specs.Coins.{Money}
 use Rattle.base_decimals.specs.Texts.{dec_text}
 use Rattle.line_json.specs.Values.{coin_data, coins_data, dec_coins_data, decimal_data, whole_data}

@@ -1,16 +1,12 @@
 -- Accounts that are joined with coins in front.
 use Rattle.std.proofs.Common.{◌≡◌, ◌∙◌, sym, ℕ, List, [], ◌∷◌, ◌++◌, map, Bool, true, false, cond, refl, ap, append_assoc, Option, Some, None}
-use Rattle.base_types.specs.declared.account.Account.{Account}
-use Rattle.base_types.specs.Orders.{account_cmp}
+use Rattle.base_types.{specs.{declared.account.Account.Account, Orders.account_cmp}, proofs.MapLemmas.equal}
+use Rattle.base_types.proofs.OrderLemmas.{account_equal, account_equal_at}
 use Rattle.base_bech32.specs.declared.form.Form.{Form}
 use Rattle.base_coins.specs.Coins.{Money}
 use Rattle.line_json.specs.Line.{line_of}
 use Rattle.rule_machine.specs.Report.{is_same_account, joined}
-use Rattle.line_report.specs.Groups.{opened}
-use Rattle.line_report.specs.Lines.{account_line, text_of}
-use Rattle.base_types.proofs.MapLemmas.{equal}
-use Rattle.base_types.proofs.OrderLemmas.{account_equal, account_equal_at}
-use Rattle.line_report.proofs.TotalLemmas.{account_exact}
+use Rattle.line_report.{specs.{Groups.opened, Lines.{account_line, text_of}}, proofs.TotalLemmas.account_exact}
 
 same_by : (a b : Account) (coins more : Money) (first : Account × Money) (rest : List (Account × Money)) (same : Bool) → is_same_account a b ≡ true →
     joined a coins (cond same ((b, more ++ first.1) ∷ rest) ((b, more) ∷ first ∷ rest)) ≡ cond same ((a, (coins ++ more) ++ first.1) ∷ rest) ((a, coins ++ more) ∷ first ∷ rest)

@@ -1,20 +1,10 @@
 -- Accounts that are gathered from balances in order ascend.
-use Rattle.std.proofs.Common.{◌≡◌, ◌∙◌, ◌⊎◌, inl, inr, ⊎_elim, sym, ℕ, List, [], ◌∷◌, ◌++◌, Bool, true, false, true≢false, cond, refl, ap, subst}
-use Rattle.std.specs.declared.cmp.Ordering.{Ordering}
-use Rattle.std.specs.declared.cmp.Ordering.TheVariants.{Less, Equal, Greater}
-use Rattle.std.specs.BTreeMap.{is_at}
-use Rattle.std.specs.Cmp.{tied_itself}
-use Rattle.std.specs.List.{AllByRecursion}
-use Rattle.std.specs.List.Sorted.{IsStrictlySortedBy}
-use Rattle.std.specs.Map.{keys_of}
-use Rattle.std.specs.Ordering.{is_eq, ordering_then}
-use Rattle.std.proofs.lemmas.Map.Keys.{sorted_head, sorted_tail}
-use Rattle.base_types.specs.declared.account.Account.{Account}
-use Rattle.base_types.specs.Orders.{account_cmp, denom_cmp}
+use Rattle.std.proofs.Common.{◌≡◌, ◌∙◌, ◌⊎◌, inl, inr, ⊎_elim, sym, ℕ, List, [], ◌∷◌, ◌++◌, Bool, true, false, true≢false, cond, refl, ap, subst, Ordering, Less, Equal, Greater, is_eq}
+use Rattle.std.specs.{BTreeMap.is_at, Cmp.tied_itself, List.{AllByRecursion, Sorted.IsStrictlySortedBy}, Map.keys_of}
+use Rattle.std.{specs.Ordering.ordering_then, proofs.lemmas.Map.Keys.{sorted_head, sorted_tail}}
+use Rattle.base_types.specs.{declared.account.Account.Account, Orders.{account_cmp, denom_cmp}}
 use Rattle.base_coins.specs.Coins.{Money}
-use Rattle.base_roles.specs.Holdings.{Balances}
-use Rattle.base_roles.specs.Orders.{place_cmp}
-use Rattle.base_roles.proofs.HoldingLemmas.{account_total}
+use Rattle.base_roles.{specs.{Holdings.Balances, Orders.place_cmp}, proofs.HoldingLemmas.account_total}
 use Rattle.rule_machine.specs.Report.{accounts_in, joined}
 use Rattle.line_report.proofs.TotalLemmas.{account_exact}
 

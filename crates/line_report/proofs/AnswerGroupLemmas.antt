@@ -1,35 +1,19 @@
 -- The groups that are asked for are those of the report, as far as they belong to an address.
-use Rattle.std.proofs.Common.{◌≡◌, ◌∙◌, sym, ℕ, List, [], ◌∷◌, ◌++◌, filter, Bool, true, false, true≢false, cond, Some, None, refl, ap, subst}
-use Rattle.std.specs.Prelude.{unwrap_or}
-use Rattle.std.specs.declared.cmp.Ordering.TheVariants.{Less}
-use Rattle.std.specs.BTreeMap.{is_at}
-use Rattle.std.specs.List.{AllByRecursion, filter_map}
-use Rattle.std.specs.List.Sorted.{IsStrictlySortedBy}
-use Rattle.std.specs.Map.{keys_of, values_of}
-use Rattle.std.specs.Ordering.{is_eq}
-use Rattle.std.proofs.lemmas.Map.Entries.{lookup-filter-keys}
-use Rattle.std.proofs.lemmas.Map.Keys.{sorted_head, sorted_tail}
-use Rattle.std.proofs.lemmas.Map.Lookups.{exact_bytes}
-use Rattle.base_types.specs.declared.account.Account.{Account}
-use Rattle.base_types.specs.Accounts.{account_bytes}
-use Rattle.base_types.specs.Orders.{account_cmp, addr_cmp}
+use Rattle.std.proofs.Common.{◌≡◌, ◌∙◌, sym, ℕ, List, [], ◌∷◌, ◌++◌, filter, Bool, true, false, true≢false, cond, Some, None, refl, ap, subst, unwrap_or, Less, filter_map, is_eq}
+use Rattle.std.specs.{BTreeMap.is_at, List.{AllByRecursion, Sorted.IsStrictlySortedBy}, Map.{keys_of, values_of}}
+use Rattle.std.proofs.lemmas.Map.{Entries.lookup-filter-keys, Keys.{sorted_head, sorted_tail}, Lookups.exact_bytes}
+use Rattle.base_types.specs.{declared.account.Account.Account, Accounts.account_bytes, Orders.{account_cmp, addr_cmp}}
+use Rattle.base_types.proofs.MapLemmas.{equal}
 use Rattle.base_coins.specs.Coins.{Money}
-use Rattle.base_roles.specs.declared.entities.Purse.{Purse}
-use Rattle.base_roles.specs.declared.entities.Validator.{Validator}
-use Rattle.base_roles.specs.declared.items.Item.{Item}
+use Rattle.base_roles.specs.{declared.{entities.{Purse.Purse, Validator.Validator}, items.Item.Item}, Holdings.Balances}
+use Rattle.base_roles.{specs.{Items.no_purse, Orders.{pair_cmp, place_cmp}}, proofs.HoldingLemmas.place_total}
 use Rattle.base_roles.specs.declared.items.Item.TheVariants as item
-use Rattle.base_roles.specs.Holdings.{Balances}
-use Rattle.base_roles.specs.Items.{no_purse}
-use Rattle.base_roles.specs.Orders.{pair_cmp, place_cmp}
-use Rattle.base_roles.proofs.HoldingLemmas.{place_total}
 use Rattle.base_messages.specs.declared.report.Pending.{Pending}
-use Rattle.rule_machine.specs.Report.{accounts_in, is_same_account, joined}
+use Rattle.rule_machine.specs.{Report.{accounts_in, is_same_account, joined}, Orders.in_order}
 use Rattle.line_report.specs.Groups.{accounts_of, delegations_of, pending_of, purse_at, purses_of, redelegations_of, signing_of, unbondings_of, validators_of, with_purses}
-use Rattle.rule_machine.specs.Orders.{in_order}
 use Rattle.line_report.specs.Telling.{Asked, balance_in, delegation_in, is_asked, pending_in, purse_in, redelegation_in, signing_in, unbonding_in, validator_in}
 use Rattle.line_report.proofs.AccountOrderLemmas.{BehindFirst, behind_itself, behind_head, not_before}
 use Rattle.line_report.proofs.AskedLemmas.{asked, asked_in_order, holds_in_order, holds_of_told}
-use Rattle.base_types.proofs.MapLemmas.{equal}
 use Rattle.line_report.proofs.EntryLemmas.{ascend_in_order}
 use Rattle.line_report.proofs.TotalLemmas.{account_exact, addr_total, pair_exact, pair_total, place_exact, triple_exact, triple_total}
 

@@ -1,23 +1,19 @@
 -- The lines that answer a question are those of the report that are of its kind and belong to its address.
-use Rattle.std.proofs.Common.{◌≡◌, ◌∙◌, sym, ℕ, List, [], ◌∷◌, ◌++◌, map, filter, codes, Bool, true, false, cond, Some, refl, ap, append-nil}
-use Rattle.std.specs.List.{flat_map}
-use Rattle.std.proofs.lemmas.List.{map-append}
-use Rattle.std.proofs.lemmas.List.Elements.{filter-append}
+use Rattle.std.proofs.Common.{◌≡◌, ◌∙◌, sym, ℕ, List, [], ◌∷◌, ◌++◌, map, filter, codes, Bool, true, false, cond, Some, refl, ap, append-nil, flat_map}
+use Rattle.std.proofs.lemmas.List.{map-append, Elements.filter-append}
 use Rattle.serde_json.specs.Data.{Data}
 use Rattle.base_types.specs.Accounts.{account_bytes}
 use Rattle.base_bech32.specs.declared.form.Form.{Form}
 use Rattle.base_roles.specs.declared.items.Item.{Item}
 use Rattle.base_messages.specs.declared.report.Pending.{Pending}
 use Rattle.rule_machine.specs.Report.{Report}
-use Rattle.line_report.specs.declared.question.Query.{Query}
-use Rattle.line_report.specs.declared.question.Query.TheVariants as query
-use Rattle.line_report.specs.Groups.{report_from}
+use Rattle.line_report.specs.{declared.question.Query.Query, Groups.report_from}
 use Rattle.line_report.specs.Labels.{Labelled, all_labelled_by, answering_lines, answers, labelled_by, labelled_lines}
 use Rattle.line_report.specs.Laws.{AnswersAreLines}
 use Rattle.line_report.specs.Lines.{account_line, delegation_line, lines_of, pending_line, pool_line, redelegation_lines, signing_line, supply_line, unbonding_lines, validator_line}
-use Rattle.line_report.specs.Queries.{lines_asked}
-use Rattle.line_report.specs.Telling.{is_asked}
+use Rattle.line_report.specs.{Queries.lines_asked, Telling.is_asked}
 use Rattle.line_report.proofs.AnswerGroupLemmas.{accounts_asked, delegations_asked, pending_asked_for, redelegations_asked, signing_asked_for, unbondings_asked, validators_asked}
+use Rattle.line_report.specs.declared.question.Query.TheVariants as query
 
 -- ---- labels
 

@@ -1,20 +1,12 @@
 -- What is asked for is the part of all that belongs to an address.
-use Rattle.std.proofs.Common.{◌≡◌, ◌∙◌, sym, List, [], ◌∷◌, filter, Bool, true, false, cond, Option, Some, None, refl, ap, subst}
-use Rattle.std.specs.declared.cmp.Ordering.{Ordering}
-use Rattle.std.specs.declared.cmp.Ordering.TheVariants.{Less, Equal, Greater}
-use Rattle.std.specs.BTreeMap.{insert_entry, is_at}
-use Rattle.std.specs.Cmp.{IsTotalOrder}
-use Rattle.std.specs.List.{AllByRecursion, cons_option, filter_map}
-use Rattle.std.specs.List.Sorted.{IsStrictlySortedBy}
-use Rattle.std.specs.Map.{keys_of, lookup}
-use Rattle.std.specs.Ordering.{match_ordering}
-use Rattle.std.proofs.lemmas.List.Kept.{IsStrictlySortedBy-filter}
-use Rattle.std.proofs.lemmas.Map.Entries.{lookup-filter-keys}
+use Rattle.std.proofs.Common.{◌≡◌, ◌∙◌, sym, List, [], ◌∷◌, filter, Bool, true, false, cond, Option, Some, None, refl, ap, subst, Ordering, Less, Equal, Greater, filter_map}
+use Rattle.std.specs.{BTreeMap.{insert_entry, is_at}, Cmp.IsTotalOrder, List.{AllByRecursion, cons_option}}
+use Rattle.std.specs.{List.Sorted.IsStrictlySortedBy, Map.{keys_of, lookup}, Ordering.match_ordering}
+use Rattle.std.proofs.lemmas.{List.Kept.IsStrictlySortedBy-filter, Map.Entries.lookup-filter-keys}
 use Rattle.std.proofs.lemmas.Map.Lookups.{CmpEqualImpliesEq}
 use Rattle.rule_machine.specs.Orders.{entries_with, in_order}
-use Rattle.line_report.specs.Telling.{told_if}
+use Rattle.line_report.{specs.Telling.told_if, proofs.EntryLemmas.{ascend_in_order, same_entries}}
 use Rattle.base_types.proofs.MapLemmas.{at-put, equal}
-use Rattle.line_report.proofs.EntryLemmas.{ascend_in_order, same_entries}
 
 -- what is told, where its key is asked for
 abbrev pub asked : {K X : Type 0} → (K → Bool) → Option (K × X) → Option (K × X)

@@ -1,27 +1,19 @@
 -- An answer needs no pending rewards but those that are asked for.
-use Rattle.std.proofs.Common.{◌≡◌, ◌∙◌, ℕ, Bool, true, false, cond, List, [], ◌∷◌, ◌++◌, map, filter, Some, refl, sym, ap}
-use Rattle.std.specs.Prelude.{if◌then◌else◌, All}
-use Rattle.std.specs.List.{filter_map, cons_option, AllByRecursion}
-use Rattle.std.specs.Map.{values_of}
-use Rattle.std.proofs.lemmas.List.{append-nil}
+use Rattle.std.proofs.Common.{◌≡◌, ◌∙◌, ℕ, Bool, true, false, cond, List, [], ◌∷◌, ◌++◌, map, filter, Some, refl, sym, ap, if◌then◌else◌, All, filter_map, append-nil}
+use Rattle.std.specs.{List.{cons_option, AllByRecursion}, Map.values_of}
 use Rattle.std.proofs.lemmas.List.Elements.{filter-append, recursion_from_All}
 use Rattle.serde_json.specs.Data.{Data}
 use Rattle.base_types.specs.Accounts.{account_bytes}
 use Rattle.base_bech32.specs.declared.form.Form.{Form}
-use Rattle.base_roles.specs.declared.items.Item.{Item}
-use Rattle.base_roles.specs.Orders.{pair_cmp}
+use Rattle.base_roles.specs.{declared.items.Item.Item, Orders.pair_cmp}
 use Rattle.base_messages.specs.declared.report.Pending.{Pending}
-use Rattle.rule_machine.specs.Orders.{in_order}
-use Rattle.rule_machine.specs.Report.{Report, report_of}
-use Rattle.line_report.specs.declared.question.Query.{Query}
-use Rattle.line_report.specs.declared.question.Query.TheVariants as query
-use Rattle.line_report.specs.Asking.{is_pending_asked, StatesAreAsked}
-use Rattle.line_report.specs.Labels.{answering_lines}
-use Rattle.line_report.specs.Lines.{pending_line, text_of}
+use Rattle.rule_machine.specs.{Orders.in_order, Report.{Report, report_of}}
+use Rattle.line_report.specs.{declared.question.Query.Query, Asking.{is_pending_asked, StatesAreAsked}}
+use Rattle.line_report.specs.{Labels.answering_lines, Lines.{pending_line, text_of}}
 use Rattle.line_report.specs.Queries.{lines_asked, names_address, text_if_any}
-use Rattle.line_report.specs.Telling.{is_asked, pending_in, told_if}
-use Rattle.line_report.proofs.AnswerLemmas.{answers_are_lines}
+use Rattle.line_report.{specs.Telling.{is_asked, pending_in, told_if}, proofs.AnswerLemmas.answers_are_lines}
 use Rattle.line_report.proofs.StateLemmas.{states_are_reported}
+use Rattle.line_report.specs.declared.question.Query.TheVariants as query
 
 -- ---- those of one delegator
 

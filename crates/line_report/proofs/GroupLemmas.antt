@@ -1,34 +1,20 @@
 -- The groups of a state's report are those of its items.
-use Rattle.std.proofs.Common.{◌≡◌, ◌∙◌, sym, ℕ, List, [], ◌∷◌, ◌++◌, map, false, Option, Some, None, refl, ap, subst}
-use Rattle.std.specs.Prelude.{All, unwrap_or, option_map}
-use Rattle.std.specs.declared.cmp.Ordering.{Ordering}
-use Rattle.std.specs.declared.cmp.Ordering.TheVariants.{Less, Equal, Greater}
-use Rattle.std.specs.BTreeMap.{is_at}
-use Rattle.std.specs.Cmp.{IsTotalOrder}
-use Rattle.std.specs.List.{AllByRecursion, IsDistinct, cons_option, filter_map}
-use Rattle.std.specs.List.Sorted.{IsPermutation, IsStrictlySortedBy}
-use Rattle.std.specs.Map.{keys_of, lookup, values_of}
-use Rattle.std.specs.Ordering.{eq_by_cmp, is_eq, ordering_then}
-use Rattle.std.proofs.lemmas.List.Elements.{All-head, All-tail, recursion_from_All}
-use Rattle.std.proofs.lemmas.Map.Keys.{IsDistinct-from_sorted}
+use Rattle.std.proofs.Common.{◌≡◌, ◌∙◌, sym, ℕ, List, [], ◌∷◌, ◌++◌, map, false, Option, Some, None, refl, ap, subst, All, unwrap_or, option_map, Ordering, Less, Equal, Greater, filter_map, IsPermutation, is_eq}
+use Rattle.std.specs.{BTreeMap.is_at, Cmp.IsTotalOrder, List.{AllByRecursion, IsDistinct, cons_option}}
+use Rattle.std.specs.{List.Sorted.IsStrictlySortedBy, Map.{keys_of, lookup, values_of}}
+use Rattle.std.specs.Ordering.{eq_by_cmp, ordering_then}
+use Rattle.std.proofs.lemmas.{List.Elements.{All-head, All-tail, recursion_from_All}, Map.Keys.IsDistinct-from_sorted}
 use Rattle.std.proofs.lemmas.Map.Lookups.{CmpEqualImpliesEq, exact_bytes}
 use Rattle.base_types.specs.Orders.{addr_cmp, cons_cmp, denom_cmp}
 use Rattle.base_coins.specs.Coins.{Money}
-use Rattle.base_roles.specs.declared.entities.Validator.{Validator}
-use Rattle.base_roles.specs.declared.items.Item.{Item}
+use Rattle.base_roles.specs.declared.{entities.Validator.Validator, items.Item.Item}
+use Rattle.base_roles.{specs.Orders.{pair_cmp, place_cmp, triple_cmp}, proofs.HoldingLemmas.{denom_total, place_total}}
 use Rattle.base_roles.specs.declared.items.Item.TheVariants as item
-use Rattle.base_roles.specs.Orders.{pair_cmp, place_cmp, triple_cmp}
-use Rattle.base_roles.proofs.HoldingLemmas.{denom_total, place_total}
 use Rattle.base_messages.specs.declared.report.Pending.{Pending}
-use Rattle.rule_modules.specs.Chain.{State}
-use Rattle.rule_modules.specs.Purses.{purse_of}
-use Rattle.rule_modules.specs.Window.{info_of}
-use Rattle.rule_machine.specs.Items.{IsInKeyOrder, items_of}
-use Rattle.rule_machine.specs.Report.{Delegations, by_delegator}
+use Rattle.rule_modules.specs.{Chain.State, Purses.purse_of, Window.info_of}
+use Rattle.rule_machine.specs.{Items.{IsInKeyOrder, items_of}, Report.{Delegations, by_delegator}, Orders.in_order}
 use Rattle.rule_machine.specs.Report as machine
-use Rattle.line_report.specs.Groups.{or_else, pending_of, pool_of, with_purses}
-use Rattle.line_report.specs.Laws.{AreItemsOf, IsUnread}
-use Rattle.rule_machine.specs.Orders.{in_order}
+use Rattle.line_report.specs.{Groups.{or_else, pending_of, pool_of, with_purses}, Laws.{AreItemsOf, IsUnread}}
 use Rattle.line_report.specs.Telling.{balance_in, delegation_in, pending_in, pool_in, purse_in, redelegation_in, signing_in, supply_in, unbonding_in, validator_in}
 use Rattle.line_report.proofs.EntryLemmas.{ascend_in_order, lookup_in_order}
 use Rattle.line_report.proofs.ItemLemmas.{IsBlind, balance_blind, balances_told, delegation_blind, delegations_told, pool_entry, pool_told, purse_blind, purses_told, redelegation_blind, redelegations_told, signing_blind, signing_told, supplies_told, supply_blind, told_without, unbonding_blind, unbondings_told, validator_blind, validators_told}

@@ -1,21 +1,14 @@
 -- What the items of a state tell.
-use Rattle.std.proofs.Common.{◌≡◌, ◌∙◌, ◌⊎◌, inl, inr, ⊎_elim, ℕ, Bool, List, [], ◌∷◌, ◌++◌, map, map-id, Option, Some, None, refl, ap, append-nil, subst}
-use Rattle.std.specs.Prelude.{All, option_map, reverse, unwrap_or}
-use Rattle.std.specs.List.{AllByRecursion, cons_option, filter_map, flat_map}
+use Rattle.std.proofs.Common.{◌≡◌, ◌∙◌, ◌⊎◌, inl, inr, ⊎_elim, ℕ, Bool, List, [], ◌∷◌, ◌++◌, map, map-id, Option, Some, None, refl, ap, append-nil, subst, All, option_map, reverse, unwrap_or, filter_map, flat_map}
+use Rattle.std.specs.List.{AllByRecursion, cons_option}
 use Rattle.std.proofs.lemmas.List.Elements.{filter_map-append, recursion_from_All}
 use Rattle.base_types.specs.declared.account.Account.{Account}
 use Rattle.base_coins.specs.Coins.{Money}
-use Rattle.base_roles.specs.declared.entities.Historical.{Historical}
-use Rattle.base_roles.specs.declared.entities.Purse.{Purse}
-use Rattle.base_roles.specs.declared.entities.RedelegationEntry.{RedelegationEntry}
-use Rattle.base_roles.specs.declared.entities.SigningInfo.{SigningInfo}
-use Rattle.base_roles.specs.declared.entities.UnbondingEntry.{UnbondingEntry}
-use Rattle.base_roles.specs.declared.entities.Validator.{Validator}
-use Rattle.base_roles.specs.declared.items.Item.{Item}
+use Rattle.base_roles.specs.declared.entities.{Historical.Historical, Purse.Purse, RedelegationEntry.RedelegationEntry}
+use Rattle.base_roles.specs.declared.entities.{SigningInfo.SigningInfo, UnbondingEntry.UnbondingEntry}
+use Rattle.base_roles.specs.declared.{entities.Validator.Validator, items.Item.Item}
 use Rattle.base_roles.specs.declared.items.Item.TheVariants as item
-use Rattle.rule_modules.specs.Chain.{State}
-use Rattle.rule_modules.specs.Periods.{Periods, Rewards, history_kept, starts_of}
-use Rattle.rule_modules.specs.Window.{info_of}
+use Rattle.rule_modules.specs.{Chain.State, Periods.{Periods, Rewards, history_kept, starts_of}, Window.info_of}
 use Rattle.rule_machine.specs.Items.{entry_items, ground_items, historical_items, holding_items, items_of, purse_items, reward_items, ring_of, shared_items, signing_items, staked_items}
 use Rattle.line_report.specs.Laws.{IsUnread}
 use Rattle.line_report.specs.Telling.{balance_in, delegation_in, pool_in, purse_in, redelegation_in, signing_in, supply_in, unbonding_in, validator_in}

@@ -1,13 +1,8 @@
 -- The orders in which maps keep balances and redelegations are those of their definitions.
-use Rattle.std.proofs.Common.{◌≡◌, ℕ, List, refl, subst}
-use Rattle.std.specs.declared.cmp.Ordering.{Ordering}
-use Rattle.std.specs.declared.cmp.Ordering.TheVariants.{Less, Equal, Greater}
-use Rattle.std.specs.BTreeMap.{insert_entry}
-use Rattle.std.specs.Ordering.{ordering_then}
-use Rattle.base_types.specs.declared.account.Account.{Account}
-use Rattle.base_roles.proofs.HoldingLemmas.{place_order, place_order_is}
-use Rattle.base_types.specs.Orders.{addr_cmp}
-use Rattle.base_roles.specs.Orders.{place_cmp, triple_cmp}
+use Rattle.std.proofs.Common.{◌≡◌, ℕ, List, refl, subst, Ordering, Less, Equal, Greater}
+use Rattle.std.specs.{BTreeMap.insert_entry, Ordering.ordering_then}
+use Rattle.base_types.specs.{declared.account.Account.Account, Orders.addr_cmp}
+use Rattle.base_roles.{proofs.HoldingLemmas.{place_order, place_order_is}, specs.Orders.{place_cmp, triple_cmp}}
 
 pub balance_put : (es new : List ((Account × List ℕ) × ℕ)) (e : (Account × List ℕ) × ℕ) → new ≡ insert_entry place_order es e.0 e.1 → new ≡ insert_entry place_cmp es e.0 e.1
 balance_put es new e h = subst (λ order. new ≡ insert_entry order es e.0 e.1) place_order_is h

@@ -1,24 +1,12 @@
 -- Entries are put in order one by one, as items tell them.
-use Rattle.std.proofs.Common.{◌≡◌, ◌∙◌, sym, ℕ, suc, ◌+◌, ◌<◌, List, [], ◌∷◌, drop, length, Option, Some, None, refl, arith, ap, subst, get_or, Bor}
-use Rattle.std.specs.declared.cmp.Ordering.{Ordering}
-use Rattle.std.specs.declared.cmp.Ordering.TheVariants.{Less, Equal, Greater}
-use Rattle.std.specs.BTreeMap.{insert_entry}
-use Rattle.std.specs.List.{cons_option, filter_map}
-use Rattle.std.specs.Ordering.{match_ordering}
-use Rattle.std.proofs.Math.Seq.{drop-cons}
-use Rattle.std.specs.Prelude.{option_map, unwrap_or}
-use Rattle.std.specs.BTreeMap.{is_at}
-use Rattle.std.specs.Map.{lookup}
-use Rattle.std.proofs.lemmas.Map.Made.{lookup-map_values}
+use Rattle.std.proofs.Common.{◌≡◌, ◌∙◌, sym, ℕ, suc, ◌+◌, ◌<◌, List, [], ◌∷◌, drop, length, Option, Some, None, refl, arith, ap, subst, get_or, Bor, Ordering, Less, Equal, Greater, filter_map, option_map, unwrap_or}
+use Rattle.std.specs.{BTreeMap.{insert_entry, is_at}, List.cons_option, Ordering.match_ordering, Map.lookup}
+use Rattle.std.proofs.{Math.Seq.drop-cons, lemmas.Map.Made.lookup-map_values}
 use Rattle.base_types.specs.Orders.{addr_cmp}
 use Rattle.base_coins.specs.Coins.{Money}
-use Rattle.base_roles.specs.declared.entities.Purse.{Purse}
-use Rattle.base_roles.specs.declared.items.Item.{Item}
-use Rattle.base_roles.specs.Items.{no_purse}
-use Rattle.line_report.specs.Groups.{or_else, pool_of, purse_at}
+use Rattle.base_roles.specs.{declared.{entities.Purse.Purse, items.Item.Item}, Items.no_purse}
+use Rattle.line_report.specs.{Groups.{or_else, pool_of, purse_at}, Telling.pool_in, Seen.seen}
 use Rattle.rule_machine.specs.Orders.{entries_with}
-use Rattle.line_report.specs.Telling.{pool_in}
-use Rattle.line_report.specs.Seen.{seen}
 
 pub drop_next : {A : Type 0} (xs : List A) (i : ℕ) (x : A) → i < length xs → x ≡ get_or xs i x → drop i xs ≡ x ∷ drop (i + 1) xs
 drop_next xs i x lt is =

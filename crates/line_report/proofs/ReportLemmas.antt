@@ -1,16 +1,12 @@
 -- The text of the report, section by section, and answers without lines.
-use Rattle.std.proofs.Common.{◌≡◌, ◌∙◌, sym, ℕ, List, [], ◌∷◌, ◌++◌, map, length, refl, ap, append_assoc, Some, None, ◌+◌, ◌<◌, drop, get_or}
-use Rattle.std.specs.List.{flat_map}
+use Rattle.std.proofs.Common.{◌≡◌, ◌∙◌, sym, ℕ, List, [], ◌∷◌, ◌++◌, map, length, refl, ap, append_assoc, Some, None, ◌+◌, ◌<◌, drop, get_or, flat_map, append-nil}
 use Rattle.std.proofs.lemmas.Grind.{flat_map-append}
-use Rattle.std.proofs.lemmas.List.{append-nil}
-use Rattle.serde_json.specs.Data.{Data}
-use Rattle.serde_json.specs.Written.{compact_text}
+use Rattle.serde_json.specs.{Data.Data, Written.compact_text}
 use Rattle.line_json.specs.Line.{line_of}
 use Rattle.base_bech32.specs.declared.form.Form.{Form}
 use Rattle.rule_machine.specs.Report.{Report}
 use Rattle.line_report.specs.Lines.{account_line, delegation_line, lines_of, pending_line, pool_line, redelegation_lines, signing_line, supply_line, text_of, unbonding_lines, validator_line}
-use Rattle.line_report.specs.Queries.{text_if_any}
-use Rattle.line_report.proofs.OrderLemmas.{drop_next}
+use Rattle.line_report.{specs.Queries.text_if_any, proofs.OrderLemmas.drop_next}
 
 -- texts of lists that follow one another
 text_then : (xs ys : List Data) (rest : List ℕ) → text_of ys ≡ rest → text_of (xs ++ ys) ≡ text_of xs ++ rest

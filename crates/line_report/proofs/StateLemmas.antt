@@ -3,11 +3,8 @@ use Rattle.std.proofs.Common.{◌≡◌, ◌∙◌, List, map, None, ap}
 use Rattle.std.specs.Map.{values_of}
 use Rattle.base_roles.specs.declared.items.Item.{Item}
 use Rattle.base_messages.specs.declared.report.Pending.{Pending}
-use Rattle.rule_modules.specs.Chain.{State}
-use Rattle.rule_modules.specs.Purses.{purse_of}
-use Rattle.rule_modules.specs.Sound.{IsSound}
-use Rattle.rule_machine.specs.Items.{IsInKeyOrder}
-use Rattle.rule_machine.specs.Report.{accounts_in, report_of}
+use Rattle.rule_modules.specs.{Chain.State, Purses.purse_of, Sound.IsSound}
+use Rattle.rule_machine.specs.{Items.IsInKeyOrder, Report.{accounts_in, report_of}}
 use Rattle.line_report.specs.Groups.{pending_of, report_from, validators_of, with_purses}
 use Rattle.line_report.specs.Laws.{AreItemsOf, StatesAreReported}
 use Rattle.line_report.proofs.GroupLemmas.{balance_group, delegation_group, pending_group, pool_group, purse_group, redelegation_group, signing_group, supply_group, unbonding_group, validator_group, with_purses_is}

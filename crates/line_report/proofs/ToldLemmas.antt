@@ -1,17 +1,10 @@
 -- What things tell, in whatever order they come.
-use Rattle.std.proofs.Common.{◌≡◌, ◌∙◌, sym, Bool, false, List, [], ◌∷◌, Option, Some, None, refl, ap, subst}
-use Rattle.std.specs.Prelude.{unwrap_or}
-use Rattle.std.specs.declared.cmp.Ordering.{Ordering}
-use Rattle.std.specs.BTreeMap.{is_at}
-use Rattle.std.specs.Cmp.{IsTotalOrder, eq_by_cmp_equiv}
-use Rattle.std.specs.List.{AllByRecursion, IsDistinct, cons_option, filter_map}
-use Rattle.std.specs.List.Sorted.{IsPermutation, IsStrictlySortedBy}
-use Rattle.std.specs.Map.{keys_of, lookup}
-use Rattle.std.specs.Ordering.{eq_by_cmp}
-use Rattle.std.proofs.lemmas.List.Elements.{All-from_recursion, recursion_from_All}
+use Rattle.std.proofs.Common.{◌≡◌, ◌∙◌, sym, Bool, false, List, [], ◌∷◌, Option, Some, None, refl, ap, subst, unwrap_or, Ordering, filter_map, IsPermutation}
+use Rattle.std.specs.{BTreeMap.is_at, Cmp.{IsTotalOrder, eq_by_cmp_equiv}}
+use Rattle.std.specs.{List.{AllByRecursion, IsDistinct, cons_option, Sorted.IsStrictlySortedBy}, Map.{keys_of, lookup}}
+use Rattle.std.{specs.Ordering.eq_by_cmp, proofs.lemmas.List.Elements.{All-from_recursion, recursion_from_All}}
 use Rattle.std.proofs.lemmas.List.Sorted.{All-permutation, IsPermutation-sym}
-use Rattle.std.proofs.lemmas.Map.Keys.{IsDistinct-IsPermutation, IsDistinct-from_sorted}
-use Rattle.std.proofs.lemmas.Map.Lookups.{CmpEqualImpliesEq}
+use Rattle.std.proofs.lemmas.Map.{Keys.{IsDistinct-IsPermutation, IsDistinct-from_sorted}, Lookups.CmpEqualImpliesEq}
 use Rattle.rule_machine.specs.Orders.{in_order}
 use Rattle.line_report.proofs.EntryLemmas.{AreFound, all_found, found_alike, in_order_is}
 

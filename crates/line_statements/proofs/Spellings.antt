@@ -7,8 +7,7 @@ use Rattle.base_messages.specs.declared.faults.LineFault.{LineFault}
 use Rattle.base_messages.specs.declared.faults.LineFault.TheVariants as why
 use Rattle.line_json.specs.Reading.{Fails, tree_of, value_of}
 use Rattle.mod_statement.specs.declared.statement.Statement.{Statement}
-use Rattle.line_statements.specs.declared.reading.Spelled.{Spelled}
-use Rattle.line_statements.specs.Spelled.{spelled_of}
+use Rattle.line_statements.specs.{declared.reading.Spelled.Spelled, Spelled.spelled_of}
 use Rattle.line_statements.specs.Statements.{statement_of, statement_of_tree}
 
 -- what was read, in the type of its own

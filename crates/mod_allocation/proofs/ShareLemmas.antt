@@ -1,19 +1,13 @@
 -- The share of a vote: how near it comes to its exact part, that it is not over, and that what is left covers all shares.
-use Rattle.std.proofs.Common.{◌≡◌, ℕ, ◌+◌, ◌-◌, ◌*◌, ◌^◌, ◌<◌, ◌≤◌, List, [], ◌∷◌, map, length, drop, get_or, drop-cons, add-one, zero, Ok, refl, sym, ap, subst, ◌∙◌, arith, mul-le-mul_right, le_of_mul-le-mul_right}
-use Rattle.std.specs.Prelude.{sum, suc}
+use Rattle.std.proofs.Common.{◌≡◌, ℕ, ◌+◌, ◌-◌, ◌*◌, ◌^◌, ◌<◌, ◌≤◌, List, [], ◌∷◌, map, length, drop, get_or, drop-cons, add-one, zero, Ok, refl, sym, ap, subst, ◌∙◌, arith, mul-le-mul_right, le_of_mul-le-mul_right, sum, suc}
 use Rattle.std.proofs.lemmas.List.Sums.{sum_by-cons}
-use Rattle.base_decimals.specs.Decimals.{digits_36, mul_cut_of, quo_cut_of}
-use Rattle.base_decimals.specs.Rounding.{cut}
+use Rattle.base_decimals.specs.{Decimals.{digits_36, mul_cut_of, quo_cut_of}, Rounding.cut}
 use Rattle.base_shares.proofs.Roundings.{cut_low, cut_high, cut_most}
 use Rattle.base_coins.specs.Coins.{Money, IsMoney, amount_of, coins_taken, coins_mul_cut}
-use Rattle.base_coins.proofs.Order.{rises_from_money}
-use Rattle.base_coins.proofs.Amounts.{amount-by}
-use Rattle.base_coins.proofs.Parts.{zero_mul_cut}
-use Rattle.base_roles.specs.declared.messages.Vote.{Vote}
-use Rattle.base_roles.specs.Flow.{◌>>=◌}
+use Rattle.base_coins.proofs.{Order.rises_from_money, Amounts.amount-by, Parts.zero_mul_cut}
+use Rattle.base_roles.specs.{declared.messages.Vote.Vote, Flow.{◌>>=◌}}
 use Rattle.rule_modules.proofs.PartLemmas.{part_low, part_high, share_low, share_high, left_covers}
-use Rattle.mod_allocation.specs.Laws.{SharesAreNear}
-use Rattle.mod_allocation.specs.Shares.{share_of, AreCovered, IsNearPart}
+use Rattle.mod_allocation.specs.{Laws.SharesAreNear, Shares.{share_of, AreCovered, IsNearPart}}
 use Rattle.mod_allocation.proofs.RuleLemmas.{step_parts, below_fits}
 use Rattle.mod_allocation.proofs.CoinLemmas.{amount_taken, product_cut_fits, product_cut_money}
 

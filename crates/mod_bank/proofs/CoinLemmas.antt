@@ -1,26 +1,15 @@
 -- The coins of an account, as a walk over its entries finds them.
-use Rattle.std.proofs.Common.{◌≡◌, ◌∙◌, ℕ, ◌≤◌, Bool, true, false, cond, List, [], ◌∷◌, Option, Some, None, length, refl, sym, ap, subst, arith}
-use Rattle.std.specs.Prelude.{◌&&◌, codes, nat_le}
-use Rattle.std.proofs.lemmas.Bool.Decides.{nat_tests}
-use Rattle.std.specs.declared.cmp.Ordering.{Ordering}
-use Rattle.std.specs.declared.cmp.Ordering.TheVariants.{Less, Equal, Greater}
-use Rattle.std.specs.Ordering.{nat_cmp, ordering_then, is_eq, is_le, is_lt}
-use Rattle.std.specs.List.{AllByRecursion, filter, filter_map, list_all, cons_option}
-use Rattle.std.specs.List.Sorted.{IsStrictlySortedBy}
-use Rattle.std.specs.Map.{keys_of}
+use Rattle.std.proofs.Common.{◌≡◌, ◌∙◌, ℕ, ◌≤◌, Bool, true, false, cond, List, [], ◌∷◌, Option, Some, None, length, refl, sym, ap, subst, arith, ◌&&◌, codes, nat_le, Ordering, Less, Equal, Greater, nat_cmp, is_eq, is_le, is_lt, filter, filter_map}
+use Rattle.std.{proofs.lemmas.Bool.Decides.nat_tests, specs.Ordering.ordering_then}
+use Rattle.std.specs.{List.{AllByRecursion, list_all, cons_option, Sorted.IsStrictlySortedBy}, Map.keys_of}
 use Rattle.std.specs.BTreeMap.{is_at}
-use Rattle.base_types.specs.declared.account.Account.{Account}
-use Rattle.base_types.specs.Denom.{is_denom, is_letter, is_denom_character}
-use Rattle.base_types.specs.Orders.{account_cmp, denom_cmp}
+use Rattle.base_types.specs.{declared.account.Account.Account, Denom.{is_denom, is_letter, is_denom_character}}
+use Rattle.base_types.{specs.Orders.{account_cmp, denom_cmp}, proofs.OrderLemmas.account_exact}
 use Rattle.base_table.specs.Tabled.{first_of, entry_above, entry_from}
 use Rattle.base_coins.specs.Coins.{Money}
-use Rattle.base_roles.specs.Holdings.{Holdings, Balances, coin_if, coins_of}
-use Rattle.base_roles.specs.Orders.{place_cmp}
-use Rattle.base_roles.proofs.HoldingLemmas.{account_total}
-use Rattle.mod_bank.specs.Booked.{AreNamed}
-use Rattle.mod_bank.specs.Items.{own_coin}
-use Rattle.base_roles.proofs.HoldingLemmas.{place_order, place_order_is}
-use Rattle.base_types.proofs.OrderLemmas.{account_exact}
+use Rattle.base_roles.specs.{Holdings.{Holdings, Balances, coin_if, coins_of}, Orders.place_cmp}
+use Rattle.base_roles.proofs.HoldingLemmas.{account_total, place_order, place_order_is}
+use Rattle.mod_bank.specs.{Booked.AreNamed, Items.own_coin}
 
 -- ---- no name is before "A--"
 

@@ -1,20 +1,11 @@
 -- Coins that are given one after another, and the supplies meanwhile.
-use Rattle.std.proofs.Common.{◌≡◌, ◌∙◌, ℕ, ◌+◌, ◌^◌, ◌≤◌, Bool, true, false, cond, List, [], ◌∷◌, Option, Some, refl, sym, ap, subst, arith}
-use Rattle.std.specs.Prelude.{unwrap_or}
-use Rattle.std.proofs.lemmas.Map.Text.{is_eq-slice_cmp}
-use Rattle.std.proofs.lemmas.Slice.Eq.{bytes_eq-Decides}
-use Rattle.std.specs.declared.cmp.Ordering.{Ordering}
-use Rattle.std.specs.declared.cmp.Ordering.TheVariants.{Less, Equal, Greater}
-use Rattle.std.specs.Ordering.{ordering_then}
-use Rattle.std.specs.Map.{lookup, keys_of}
-use Rattle.std.specs.List.Sorted.{IsStrictlySortedBy}
-use Rattle.std.specs.BTreeMap.{is_at}
-use Rattle.base_types.specs.declared.account.Account.{Account}
-use Rattle.base_types.specs.Orders.{account_cmp, denom_cmp}
+use Rattle.std.proofs.Common.{◌≡◌, ◌∙◌, ℕ, ◌+◌, ◌^◌, ◌≤◌, Bool, true, false, cond, List, [], ◌∷◌, Option, Some, refl, sym, ap, subst, arith, unwrap_or, Ordering, Less, Equal, Greater}
+use Rattle.std.{proofs.lemmas.{Map.Text.is_eq-slice_cmp, Slice.Eq.bytes_eq-Decides}, specs.Ordering.ordering_then}
+use Rattle.std.specs.{Map.{lookup, keys_of}, List.Sorted.IsStrictlySortedBy, BTreeMap.is_at}
+use Rattle.base_types.specs.{declared.account.Account.Account, Orders.{account_cmp, denom_cmp}}
 use Rattle.base_coins.specs.Coins.{Money, IsMoney, amount_of}
 use Rattle.base_coins.proofs.Order.{Above, Rises, rises_from_money, same_name, amount-above}
-use Rattle.base_roles.specs.Holdings.{Holdings, balance_of, supply_of, total_of, IsBacked}
-use Rattle.base_roles.specs.Orders.{place_cmp}
+use Rattle.base_roles.specs.{Holdings.{Holdings, balance_of, supply_of, total_of, IsBacked}, Orders.place_cmp}
 use Rattle.base_roles.proofs.EntryLemmas.{number-after, ascend-after, positive-after, sum-after, Respects}
 use Rattle.base_roles.proofs.HoldingLemmas.{place_total, denom_total, ascend-changed, balance-within, backed-none, of_denom}
 use Rattle.mod_bank.specs.Booked.{Booked, holding, new_book}

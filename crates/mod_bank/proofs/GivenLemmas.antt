@@ -1,23 +1,15 @@
 -- What accounts hold that are given coins, amount by amount.
-use Rattle.std.proofs.Common.{◌≡◌, ◌∙◌, ℕ, ◌+◌, ◌&&◌, Bool, true, false, cond, List, [], ◌∷◌, refl, sym, ap, arith}
-use Rattle.std.specs.declared.cmp.Ordering.{Ordering}
-use Rattle.std.specs.declared.cmp.Ordering.TheVariants.{Less, Equal, Greater}
-use Rattle.std.specs.Ordering.{ordering_then, is_eq}
-use Rattle.std.specs.Map.{keys_of}
-use Rattle.std.specs.List.Sorted.{IsStrictlySortedBy}
-use Rattle.std.specs.BTreeMap.{is_at}
-use Rattle.base_types.specs.declared.account.Account.{Account}
-use Rattle.base_types.specs.Orders.{account_cmp, denom_cmp}
-use Rattle.base_coins.specs.Coins.{Money, amount_of}
-use Rattle.base_coins.proofs.Order.{Rises, rises_from_money}
-use Rattle.base_roles.specs.Holdings.{Holdings, balance_of, supply_of, no_holdings}
-use Rattle.base_roles.specs.Orders.{place_cmp}
+use Rattle.std.proofs.Common.{◌≡◌, ◌∙◌, ℕ, ◌+◌, ◌&&◌, Bool, true, false, cond, List, [], ◌∷◌, refl, sym, ap, arith, Ordering, Less, Equal, Greater, is_eq}
+use Rattle.std.specs.{Ordering.ordering_then, Map.keys_of, List.Sorted.IsStrictlySortedBy, BTreeMap.is_at}
+use Rattle.base_types.specs.{declared.account.Account.Account, Orders.{account_cmp, denom_cmp}}
+use Rattle.base_coins.{specs.Coins.{Money, amount_of}, proofs.Order.{Rises, rises_from_money}}
+use Rattle.base_roles.specs.{Holdings.{Holdings, balance_of, supply_of, no_holdings}, Orders.place_cmp}
 use Rattle.base_roles.proofs.EntryLemmas.{ascend-after}
 use Rattle.base_roles.proofs.HoldingLemmas.{place_total, place_exact, denom_total, balance-changed, ascend-changed, backed-none}
 use Rattle.mod_bank.specs.Given.{coin_given, coins_given, all_given, given_of, given_to}
 use Rattle.mod_bank.specs.Laws.{AreCoins, EachHoldsWhatItIsGiven, SuppliesAreWhatAllAreGiven}
-use Rattle.base_records.proofs.MemberLemmas.{same_key}
 use Rattle.mod_bank.proofs.GiveLemmas.{supply-given, amount-cons}
+use Rattle.base_records.proofs.MemberLemmas.{same_key}
 
 both_at : (r s : Ordering) → is_eq (ordering_then r s) ≡ is_eq r && is_eq s
 both_at Less s = refl

@@ -1,23 +1,14 @@
 -- The items of holdings: one more, and as two tables tell them.
-use Rattle.std.proofs.Common.{◌≡◌, ◌∙◌, ℕ, Bool, true, false, List, ◌++◌, refl, sym, ap, subst}
-use Rattle.std.specs.Prelude.{is_some, Result, Ok, Err, ⊤, OnOk}
-use Rattle.std.specs.List.Sorted.{IsStrictlySortedBy}
-use Rattle.std.specs.Map.{keys_of}
-use Rattle.std.specs.BTreeMap.{insert_entry}
-use Rattle.base_types.specs.declared.account.Account.{Account}
-use Rattle.base_types.specs.Orders.{denom_cmp}
-use Rattle.base_roles.specs.declared.items.Item.{Item}
-use Rattle.base_roles.specs.declared.items.Item.TheVariants as item
-use Rattle.base_roles.specs.Holdings.{Holdings}
-use Rattle.base_roles.specs.Items.{IsOnce, IsAdded, AreChanges}
+use Rattle.std.proofs.Common.{◌≡◌, ◌∙◌, ℕ, Bool, true, false, List, ◌++◌, refl, sym, ap, subst, is_some, Result, Ok, Err, OnOk}
+use Rattle.std.specs.{Prelude.⊤, List.Sorted.IsStrictlySortedBy, Map.keys_of, BTreeMap.insert_entry}
+use Rattle.base_types.specs.{declared.account.Account.Account, Orders.denom_cmp}
+use Rattle.base_roles.specs.{declared.items.Item.Item, Holdings.Holdings, Items.{IsOnce, IsAdded, AreChanges}}
 use Rattle.base_roles.specs.Orders.{place_cmp}
-use Rattle.base_roles.proofs.HoldingLemmas.{place_total, denom_total}
-use Rattle.base_records.specs.Kinds.{AreApart}
-use Rattle.base_records.specs.Items.{rows_of, AnyValue, IsRowed}
-use Rattle.base_records.proofs.KindLemmas.{added-first, added-second}
-use Rattle.base_records.proofs.RowLemmas.{row-added, rows-of-kind}
+use Rattle.base_roles.proofs.HoldingLemmas.{place_total, denom_total, place_order, place_order_is}
+use Rattle.base_roles.specs.declared.items.Item.TheVariants as item
+use Rattle.base_records.specs.{Kinds.AreApart, Items.{rows_of, AnyValue, IsRowed}}
+use Rattle.base_records.proofs.{KindLemmas.{added-first, added-second}, RowLemmas.{row-added, rows-of-kind}}
 use Rattle.mod_bank.specs.Items.{balance_item, supply_item, balance_gone, supply_gone, balance_entry, supply_entry, same_amount, items_of, is_holding}
-use Rattle.base_roles.proofs.HoldingLemmas.{place_order, place_order_is}
 use Rattle.mod_bank.proofs.KindLemmas.{balances_are_rowed, supplies_are_rowed}
 
 -- a balance is no supply

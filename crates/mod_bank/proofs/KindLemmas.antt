@@ -1,15 +1,10 @@
 -- The two kinds of records of a bank: how their keys are told apart, and their items.
-use Rattle.std.proofs.Common.{◌∙◌, sym, arith, inl, inr}
-use Rattle.std.specs.Prelude.{◌≡◌, ◌⊎◌, ℕ, true, false, List, refl}
-use Rattle.std.proofs.lemmas.Bool.Decides.{nat_tests}
-use Rattle.std.proofs.lemmas.Map.Lookups.{exact_bytes}
-use Rattle.base_types.specs.declared.account.Account.{Account}
-use Rattle.base_types.specs.Orders.{denom_cmp}
-use Rattle.base_roles.specs.declared.items.Item.{Item}
+use Rattle.std.proofs.Common.{◌∙◌, sym, arith, inl, inr, ◌≡◌, ◌⊎◌, ℕ, true, false, List, refl}
+use Rattle.std.proofs.lemmas.{Bool.Decides.nat_tests, Map.Lookups.exact_bytes}
+use Rattle.base_types.specs.{declared.account.Account.Account, Orders.denom_cmp}
+use Rattle.base_roles.{specs.declared.items.Item.Item, proofs.HoldingLemmas.{place_exact, place_order, place_order_is}}
 use Rattle.base_roles.specs.declared.items.Item.TheVariants as item
-use Rattle.base_roles.proofs.HoldingLemmas.{place_exact, place_order, place_order_is}
-use Rattle.base_records.specs.Items.{AnyValue, IsRowed}
-use Rattle.base_records.proofs.RowedLemmas.{IsOfKind, IsOfOther, rowed}
+use Rattle.base_records.{specs.Items.{AnyValue, IsRowed}, proofs.RowedLemmas.{IsOfKind, IsOfOther, rowed}}
 use Rattle.mod_bank.specs.Items.{balance_item, supply_item, balance_gone, supply_gone, balance_entry, supply_entry, same_amount}
 
 is_amount : (v w : ℕ) → same_amount v w ≡ true → v ≡ w

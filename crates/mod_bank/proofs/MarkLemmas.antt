@@ -1,19 +1,12 @@
 -- Two tables that are marked together, seen as one book.
-use Rattle.std.proofs.Common.{◌≡◌, ◌∙◌, ℕ, ◌+◌, Bool, true, false, cond, List, [], ◌∷◌, ◌++◌, length, sym, ap, subst}
-use Rattle.std.specs.Prelude.{suc}
-use Rattle.std.proofs.lemmas.List.{length_push}
-use Rattle.std.specs.declared.cmp.Ordering.{Ordering}
-use Rattle.std.specs.declared.cmp.Ordering.TheVariants.{Less, Equal, Greater}
-use Rattle.std.specs.Ordering.{match_ordering}
-use Rattle.std.specs.Map.{remove_entry}
+use Rattle.std.proofs.Common.{◌≡◌, ◌∙◌, ℕ, ◌+◌, Bool, true, false, cond, List, [], ◌∷◌, ◌++◌, length, sym, ap, subst, suc, Ordering, Less, Equal, Greater}
+use Rattle.std.{proofs.lemmas.List.length_push, specs.{Ordering.match_ordering, Map.remove_entry}}
 use Rattle.std.specs.BTreeMap.{insert_entry, is_at}
-use Rattle.base_types.specs.declared.account.Account.{Account}
-use Rattle.base_types.specs.Denom.{is_denom}
+use Rattle.base_types.specs.{declared.account.Account.Account, Denom.is_denom}
 use Rattle.base_table.specs.Tabled.{Tabled, with_value, without_key, settled_now}
 use Rattle.base_table.specs.Tabled as table
 use Rattle.base_coins.specs.Coins.{Money}
-use Rattle.base_roles.specs.Holdings.{Balances}
-use Rattle.base_roles.specs.Orders.{place_cmp}
+use Rattle.base_roles.specs.{Holdings.Balances, Orders.place_cmp}
 use Rattle.base_records.specs.Marks.{side_by_side}
 use Rattle.base_records.proofs.MarkLemmas.{none_from_length, popped_length, length-side, side-push, all-push, all-pop}
 use Rattle.mod_bank.specs.Booked.{booked, with_mark, IsGoneBack, IsForgotten, AreNamed, AreNamedAtMarks, HaveSameMarks, holdings_of}

@@ -1,17 +1,11 @@
 -- The order in which the table of balances keeps its keys is that of places.
-use Rattle.std.proofs.Common.{◌≡◌, ◌∙◌, ℕ, Bool, true, false, List, Option, Some, None, refl, sym, ap, subst}
-use Rattle.std.specs.Prelude.{not}
-use Rattle.std.specs.BTreeMap.{is_at}
-use Rattle.base_roles.specs.Holdings.{coin_if}
+use Rattle.std.proofs.Common.{◌≡◌, ◌∙◌, ℕ, Bool, true, false, List, Option, Some, None, refl, sym, ap, subst, not}
+use Rattle.std.specs.{BTreeMap.is_at, List.Sorted.IsStrictlySortedBy, Map.keys_of}
+use Rattle.base_roles.{specs.{Holdings.coin_if, Orders.place_cmp}, proofs.HoldingLemmas.{place_order, place_order_is}}
 use Rattle.mod_bank.specs.Items.{own_coin}
-use Rattle.base_roles.proofs.HoldingLemmas.{place_order, place_order_is}
-use Rattle.std.specs.List.Sorted.{IsStrictlySortedBy}
-use Rattle.std.specs.Map.{keys_of}
-use Rattle.base_types.specs.declared.account.Account.{Account}
-use Rattle.base_types.specs.Orders.{account_cmp}
+use Rattle.base_types.specs.{declared.account.Account.Account, Orders.account_cmp}
 use Rattle.base_types.proofs.OrderLemmas.{account_equal, account_equal_at}
 use Rattle.base_table.specs.Tabled.{Tabled, with_value, without_key}
-use Rattle.base_roles.specs.Orders.{place_cmp}
 
 pub put_at : (b b2 : Tabled (Account × List ℕ) ℕ) (k : Account × List ℕ) (n : ℕ) → b2 ≡ with_value place_order b k n → b2 ≡ with_value place_cmp b k n
 put_at b b2 k n e = subst (λ order. b2 ≡ with_value order b k n) place_order_is e

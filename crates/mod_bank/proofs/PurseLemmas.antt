@@ -1,32 +1,17 @@
 -- The coins of an account are a list of coins.
-use Rattle.std.proofs.Common.{◌≡◌, ◌∙◌, ℕ, ◌^◌, ◌<◌, ◌≤◌, Bool, true, false, List, [], ◌∷◌, ◌++◌, Option, Some, None, length, append_assoc, refl, sym, ap, subst, arith, inl, inr}
-use Rattle.std.specs.Prelude.{All, map, unwrap_or}
-use Rattle.std.proofs.lemmas.List.Elements.{All-from_recursion, recursion_from_All}
-use Rattle.std.proofs.lemmas.Map.Keys.{IsDistinct-from_sorted}
-use Rattle.std.specs.declared.cmp.Ordering.{Ordering}
-use Rattle.std.specs.declared.cmp.Ordering.TheVariants.{Less, Equal, Greater}
-use Rattle.std.specs.Ordering.{ordering_then, is_eq}
-use Rattle.std.specs.List.{AllByRecursion, cons_option}
-use Rattle.std.specs.List.Sorted.{IsStrictlySortedBy}
-use Rattle.std.specs.Map.{keys_of}
-use Rattle.std.specs.BTreeMap.{is_at}
-use Rattle.base_types.specs.declared.account.Account.{Account}
-use Rattle.base_types.specs.Orders.{account_cmp, denom_cmp}
+use Rattle.std.proofs.Common.{◌≡◌, ◌∙◌, ℕ, ◌^◌, ◌<◌, ◌≤◌, Bool, true, false, List, [], ◌∷◌, ◌++◌, Option, Some, None, length, append_assoc, refl, sym, ap, subst, arith, inl, inr, All, map, unwrap_or, Ordering, Less, Equal, Greater, is_eq}
+use Rattle.std.proofs.lemmas.{List.Elements.{All-from_recursion, recursion_from_All}, Map.Keys.IsDistinct-from_sorted}
+use Rattle.std.specs.{Ordering.ordering_then, List.{AllByRecursion, cons_option, Sorted.IsStrictlySortedBy}}
+use Rattle.std.specs.{Map.keys_of, BTreeMap.is_at}
+use Rattle.base_types.specs.{declared.account.Account.Account, Orders.{account_cmp, denom_cmp}}
+use Rattle.base_types.proofs.{MapLemmas.equal, OrderLemmas.account_exact}
 use Rattle.base_table.specs.Tabled.{entry_above}
-use Rattle.base_coins.specs.Coins.{Money, IsMoney, sorted_coins}
-use Rattle.base_coins.proofs.Order.{rises_from_money}
-use Rattle.base_coins.proofs.Amounts.{same_list}
+use Rattle.base_coins.{specs.Coins.{Money, IsMoney, sorted_coins}, proofs.{Order.rises_from_money, Amounts.same_list}}
 use Rattle.base_coins.proofs.Sorting.{rises_sorted, amount-sorted}
-use Rattle.base_roles.specs.Holdings.{Holdings, Balances, balance_of, coin_if, coins_of, IsBacked}
-use Rattle.base_types.proofs.MapLemmas.{equal}
-use Rattle.base_roles.specs.Orders.{place_cmp}
-use Rattle.base_types.proofs.OrderLemmas.{account_exact}
-use Rattle.base_roles.proofs.HoldingLemmas.{place_total, place_exact, denom_total, balance-most}
-use Rattle.base_roles.proofs.HoldingLemmas.{place_order}
-use Rattle.mod_bank.proofs.OrderLemmas.{ordered_at}
-use Rattle.base_records.proofs.MemberLemmas.{Member, value_of}
-use Rattle.base_records.proofs.WalkLemmas.{left_of, walk-more, walk-end}
-use Rattle.mod_bank.proofs.CoinLemmas.{coins}
+use Rattle.base_roles.specs.{Holdings.{Holdings, Balances, balance_of, coin_if, coins_of, IsBacked}, Orders.place_cmp}
+use Rattle.base_roles.proofs.HoldingLemmas.{place_total, place_exact, denom_total, balance-most, place_order}
+use Rattle.mod_bank.proofs.{OrderLemmas.ordered_at, CoinLemmas.coins}
+use Rattle.base_records.proofs.{MemberLemmas.{Member, value_of}, WalkLemmas.{left_of, walk-more, walk-end}}
 
 -- ---- in order
 

@@ -1,12 +1,8 @@
 -- Coins that move one after another, and what fits while they do.
-use Rattle.std.proofs.Common.{◌≡◌, ◌∙◌, ℕ, ◌+◌, ◌-◌, ◌*◌, ◌^◌, ◌≤◌, ◌<◌, Bool, true, false, cond, List, [], ◌∷◌, Some, length, drop, refl, sym, ap, subst, arith, add-one}
-use Rattle.std.specs.Prelude.{zero, suc, slice_get, nat_lt, ◌||◌, ◌==◌, Result, Ok, Err, ⊤, OnOk, OnErr}
-use Rattle.std.proofs.Math.ListN.{drop_of_length-le}
-use Rattle.std.proofs.lemmas.Bool.Decides.{nat_tests}
-use Rattle.std.specs.BTreeMap.{is_at}
+use Rattle.std.proofs.Common.{◌≡◌, ◌∙◌, ℕ, ◌+◌, ◌-◌, ◌*◌, ◌^◌, ◌≤◌, ◌<◌, Bool, true, false, cond, List, [], ◌∷◌, Some, length, drop, refl, sym, ap, subst, arith, add-one, zero, suc, slice_get, nat_lt, ◌||◌, ◌==◌, Result, Ok, Err, OnOk, OnErr}
+use Rattle.std.{specs.{Prelude.⊤, BTreeMap.is_at}, proofs.{Math.ListN.drop_of_length-le, lemmas.Bool.Decides.nat_tests}}
 use Rattle.base_types.specs.declared.account.Account.{Account}
-use Rattle.base_coins.specs.Coins.{Money, IsMoney}
-use Rattle.base_coins.proofs.Order.{Rises, rises_from_money}
+use Rattle.base_coins.{specs.Coins.{Money, IsMoney}, proofs.Order.{Rises, rises_from_money}}
 use Rattle.base_roles.specs.Holdings.{Holdings, balance_of, supply_of, total_of, with_balance, coin_moved, moved, is_short, coin_burned, IsBacked}
 use Rattle.base_roles.specs.Orders.{place_cmp}
 use Rattle.base_roles.proofs.HoldingLemmas.{balance-changed, balance-most, balance-within, backed-coin_moved, backed-moved, backed-burned, first_enough, rest_enough, still_enough}

@@ -1,39 +1,24 @@
 -- Who matures: from the queue, sorted, they are the unbonding validators whose time has come.
-use Rattle.std.proofs.Common.{◌≡◌, ◌∙◌, ℕ, ◌+◌, ◌*◌, ◌<◌, ◌≤◌, ◌++◌, get_or, length, length-append, append_assoc, append-nil, Bool, true, false, cond, List, [], ◌∷◌, Option, Some, None, refl, sym, ap, subst, arith, inl, inr}
-use Rattle.std.specs.Prelude.{◌&&◌, ◌||◌, nat_le, map, filter, option_map}
-use Rattle.std.proofs.lemmas.Bool.Decides.{nat_tests}
-use Rattle.std.specs.declared.cmp.Ordering.{Ordering}
-use Rattle.std.specs.declared.cmp.Ordering.TheVariants.{Less, Equal, Greater}
-use Rattle.std.specs.Ordering.{is_eq, is_lt, nat_cmp, eq_by_cmp, ordering_then, ordering_reverse}
-use Rattle.std.specs.Cmp.{eq_by_cmp_equiv}
-use Rattle.std.specs.BTreeMap.{is_at}
-use Rattle.std.specs.List.{AllByRecursion, IsDistinct}
-use Rattle.std.specs.List.Sorted.{IsStrictlySortedBy, IsSorted, IsPermutation}
-use Rattle.std.specs.Map.{keys_of, values_of}
-use Rattle.std.specs.Set.{is_member}
-use Rattle.std.proofs.lemmas.List.{length-map}
-use Rattle.std.proofs.lemmas.Map.Made.{length-le_from_is_member}
+use Rattle.std.proofs.Common.{◌≡◌, ◌∙◌, ℕ, ◌+◌, ◌*◌, ◌<◌, ◌≤◌, ◌++◌, get_or, length, length-append, append_assoc, append-nil, Bool, true, false, cond, List, [], ◌∷◌, Option, Some, None, refl, sym, ap, subst, arith, inl, inr, ◌&&◌, ◌||◌, nat_le, map, filter, option_map, Ordering, Less, Equal, Greater, is_eq, is_lt, nat_cmp, IsSorted, IsPermutation}
+use Rattle.std.proofs.lemmas.{Bool.Decides.nat_tests, List.length-map, Map.Made.length-le_from_is_member}
 use Rattle.std.proofs.lemmas.List.Sorted.{IsPermutation-sym, Contains-permutation}
 use Rattle.std.proofs.lemmas.Map.Keys.{sorted_tail, IsDistinct-from_sorted, IsDistinct-IsPermutation, apart_from_distinct, sorted_from_all_adjacent}
 use Rattle.std.proofs.lemmas.Map.Views.{Contains-from_lookup, lookup-from_Contains}
+use Rattle.std.specs.{Ordering.{eq_by_cmp, ordering_then, ordering_reverse}, Cmp.eq_by_cmp_equiv, BTreeMap.is_at}
+use Rattle.std.specs.{List.{AllByRecursion, IsDistinct, Sorted.IsStrictlySortedBy}, Map.{keys_of, values_of}}
+use Rattle.std.specs.Set.{is_member}
 use Rattle.base_types.specs.Orders.{addr_cmp}
-use Rattle.base_roles.specs.declared.entities.Validator.{Validator}
-use Rattle.base_roles.specs.Entries.{at}
+use Rattle.base_roles.specs.{declared.entities.Validator.Validator, Entries.at}
 use Rattle.base_records.proofs.AscendLemmas.{once-ascends, same_members}
 use Rattle.base_records.proofs.MemberLemmas.{Member, member, contained, all_member}
 use Rattle.base_records.proofs.WalkLemmas.{left_of, walk-end, walk-more}
 use Rattle.base_table.specs.Tabled.{entry_above}
-use Rattle.rule_modules.specs.Amounts.{count_where}
-use Rattle.rule_modules.specs.Stakes.{is_unbonding}
+use Rattle.rule_modules.specs.{Amounts.count_where, Stakes.is_unbonding}
 use Rattle.rule_modules.proofs.OrderLemmas.{addr_total, equal, same_is, same_itself}
-use Rattle.mod_staking.specs.Listed.{Validators}
-use Rattle.mod_staking.specs.Places.{time_cmp, maturing_place, in_order}
-use Rattle.mod_staking.specs.Registered.{AreKeyed}
-use Rattle.mod_staking.proofs.IndexLemmas.{keyed_found}
-use Rattle.mod_staking.proofs.ListedLemmas.{time_total, maturing_placed}
+use Rattle.mod_staking.specs.{Listed.Validators, Places.{time_cmp, maturing_place, in_order}, Registered.AreKeyed}
+use Rattle.mod_staking.proofs.{IndexLemmas.keyed_found, ListedLemmas.{time_total, maturing_placed}}
 use Rattle.mod_staking.proofs.PlaceLemmas.{in_order-ascend, listed_stands, stands_listed, next_found, found_behind}
-use Rattle.mod_bonded_set.specs.Sets.{is_due, due_in}
-use Rattle.mod_bonded_set.proofs.LoopLemmas.{length_count}
+use Rattle.mod_bonded_set.{specs.Sets.{is_due, due_in}, proofs.LoopLemmas.length_count}
 
 abbrev pub Place : Type 0
 Place = ℕ × List ℕ

@@ -1,19 +1,12 @@
 -- A validator joins the bonded set: its hook may be called, and exceeds nothing where hooks are sure.
-use Rattle.std.proofs.Common.{◌≡◌, ◌∙◌, true, List, [], ◌∷◌, ◌++◌, Some, refl, ap}
-use Rattle.std.specs.Prelude.{Err, is_some, option_map}
+use Rattle.std.proofs.Common.{◌≡◌, ◌∙◌, true, List, [], ◌∷◌, ◌++◌, Some, refl, ap, Err, is_some, option_map}
 use Rattle.base_types.specs.declared.status.BondStatus.TheVariants.{Bonded}
-use Rattle.base_roles.specs.declared.entities.Validator.{Validator}
-use Rattle.base_roles.specs.declared.faults.HookFault.{HookFault}
+use Rattle.base_roles.specs.{declared.{entities.Validator.Validator, faults.HookFault.HookFault}, Answers.Answers}
+use Rattle.base_roles.specs.{declared.facts.Fact.Fact, Hooks.{Tells, Stand, Ready, Lawful, Keeps}, Owing.Lists}
+use Rattle.base_roles.specs.{Staked.{Staked, validator_at, put_validator, lists_of}, World.{View, bonded}}
 use Rattle.base_roles.specs.declared.faults.HookFault.TheVariants as hook
-use Rattle.base_roles.specs.Answers.{Answers}
-use Rattle.base_roles.specs.declared.facts.Fact.{Fact}
-use Rattle.base_roles.specs.Hooks.{Tells, Stand, Ready, Lawful, Keeps}
-use Rattle.base_roles.specs.Owing.{Lists}
-use Rattle.base_roles.specs.Staked.{Staked, validator_at, put_validator, lists_of}
-use Rattle.base_roles.specs.World.{View, bonded}
 use Rattle.rule_modules.proofs.SoundLemmas.{to_points, found_itself}
-use Rattle.mod_staking.specs.Calls.{IsSoundStake, with_if, changed_at}
-use Rattle.mod_staking.proofs.ListLemmas.{lists-put}
+use Rattle.mod_staking.{specs.Calls.{IsSoundStake, with_if, changed_at}, proofs.ListLemmas.lists-put}
 use Rattle.mod_staking.proofs.RemoveLemmas.{given_fault}
 
 abbrev pub in_set : Validator → Validator

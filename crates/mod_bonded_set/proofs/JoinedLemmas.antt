@@ -1,22 +1,16 @@
 -- How far validators have joined the bonded set, from each plain value that the hooks held before.
-use Rattle.std.proofs.Common.{◌≡◌, ◌∙◌, List, [], ◌∷◌, ◌++◌, Some, None, refl, sym, ap, subst}
-use Rattle.std.specs.Prelude.{Result, Ok, Err}
+use Rattle.std.proofs.Common.{◌≡◌, ◌∙◌, List, [], ◌∷◌, ◌++◌, Some, None, refl, sym, ap, subst, Result, Ok, Err}
 use Rattle.base_decimals.specs.declared.over.Over.{Over}
 use Rattle.base_types.specs.declared.status.BondStatus.TheVariants.{Bonded}
-use Rattle.base_roles.specs.declared.entities.Validator.{Validator}
-use Rattle.base_roles.specs.declared.faults.HookFault.{HookFault}
-use Rattle.base_roles.specs.declared.faults.HookFault.TheVariants as hook
-use Rattle.base_roles.specs.declared.facts.Fact.TheVariants as fact
-use Rattle.base_roles.specs.Hooks.{Tells, Stand, Ready, Lawful, Keeps}
-use Rattle.base_roles.specs.Log.{Log}
-use Rattle.base_roles.specs.Staked.{Staked, validator_at, put_validator, lists_of}
-use Rattle.base_roles.specs.Flow.{◌>>=◌, each}
+use Rattle.base_roles.specs.declared.{entities.Validator.Validator, faults.HookFault.HookFault}
+use Rattle.base_roles.specs.{Hooks.{Tells, Stand, Ready, Lawful, Keeps}, Log.Log}
+use Rattle.base_roles.specs.{Staked.{Staked, validator_at, put_validator, lists_of}, Flow.{◌>>=◌, each}}
 use Rattle.base_roles.specs.World.{View, World, Told, gives, exceeds, bonded, noted, hooked}
 use Rattle.base_roles.proofs.HookLemmas.{stand-noted}
-use Rattle.rule_modules.specs.Answers.{Leaves}
-use Rattle.rule_modules.specs.BondedSet.{joined_set}
-use Rattle.mod_staking.specs.Calls.{IsSoundStake, behind_log}
-use Rattle.mod_staking.proofs.GroundLemmas.{keeps-noted, keeps_then}
+use Rattle.base_roles.specs.declared.faults.HookFault.TheVariants as hook
+use Rattle.base_roles.specs.declared.facts.Fact.TheVariants as fact
+use Rattle.rule_modules.specs.{Answers.Leaves, BondedSet.joined_set}
+use Rattle.mod_staking.{specs.Calls.{IsSoundStake, behind_log}, proofs.GroundLemmas.{keeps-noted, keeps_then}}
 use Rattle.mod_bonded_set.proofs.JoinLemmas.{in_set, lists-joined_set, ready-bonded, nothing_kept}
 
 -- ---- what a rule leaves of several validators

@@ -1,15 +1,10 @@
 -- What the rule gives of validators that leave the bonded set, one after another.
-use Rattle.std.proofs.Common.{◌≡◌, List, [], ◌∷◌, refl}
-use Rattle.std.specs.Prelude.{Ok}
+use Rattle.std.proofs.Common.{◌≡◌, List, [], ◌∷◌, refl, Ok}
 use Rattle.base_types.specs.declared.status.BondStatus.TheVariants.{Unbonding}
-use Rattle.base_roles.specs.declared.entities.Validator.{Validator}
-use Rattle.base_roles.specs.declared.facts.Fact.TheVariants as fact
-use Rattle.base_roles.specs.Log.{Log}
-use Rattle.base_roles.specs.Staked.{Staked, put_validator}
-use Rattle.base_roles.specs.Flow.{each}
+use Rattle.base_roles.specs.{declared.entities.Validator.Validator, Log.Log, Staked.{Staked, put_validator}, Flow.each}
 use Rattle.base_roles.specs.World.{View, Hook, Told, noted}
-use Rattle.rule_modules.specs.BondedSet.{left_set}
-use Rattle.rule_modules.specs.Unbondings.{completion}
+use Rattle.base_roles.specs.declared.facts.Fact.TheVariants as fact
+use Rattle.rule_modules.specs.{BondedSet.left_set, Unbondings.completion}
 use Rattle.mod_staking.specs.Calls.{behind_log}
 use Rattle.mod_bonded_set.specs.Sets.{all_left, all_leavings_noted}
 

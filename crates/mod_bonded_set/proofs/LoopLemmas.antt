@@ -1,10 +1,7 @@
 -- Loops over lists of validators: what is left, what can be taken back, and steps.
-use Rattle.std.proofs.Common.{◌≡◌, ◌∙◌, ℕ, ◌+◌, ◌*◌, ◌<◌, ◌≤◌, Bool, true, false, cond, List, [], ◌∷◌, ◌++◌, length, get_or, drop, add-one, append-nil, append_assoc, refl, sym, ap, arith}
-use Rattle.std.specs.Prelude.{filter}
-use Rattle.std.proofs.Math.Nat.{suc-mul, mul-le-mul, mul-le-mul_right}
-use Rattle.std.proofs.Math.Seq.{drop-cons}
-use Rattle.base_roles.specs.declared.bank.Ground.{Ground}
-use Rattle.base_roles.specs.Ground.{CanBeUndone}
+use Rattle.std.proofs.Common.{◌≡◌, ◌∙◌, ℕ, ◌+◌, ◌*◌, ◌<◌, ◌≤◌, Bool, true, false, cond, List, [], ◌∷◌, ◌++◌, length, get_or, drop, add-one, append-nil, append_assoc, refl, sym, ap, arith, filter}
+use Rattle.std.proofs.Math.{Nat.{suc-mul, mul-le-mul, mul-le-mul_right}, Seq.drop-cons}
+use Rattle.base_roles.specs.{declared.bank.Ground.Ground, Ground.CanBeUndone}
 use Rattle.rule_modules.specs.Amounts.{count_where}
 
 -- the next item, and what is left behind it

@@ -1,41 +1,24 @@
 -- An unbonding validator whose time has come is unbonded, and goes where it has no shares; and how far all of them have, from
 -- each plain value that the hooks held before.
-use Rattle.std.proofs.Common.{◌≡◌, ◌∙◌, ℕ, ◌+◌, ◌==◌, Bool, true, false, cond, List, [], ◌∷◌, ◌++◌, Some, None, refl, sym, ap, subst, arith}
-use Rattle.std.specs.Prelude.{◌&&◌, nat_le, if◌then◌else◌, filter, Result, Ok, Err, ⊤}
-use Rattle.std.specs.List.{AllByRecursion}
-use Rattle.std.specs.List.Sorted.{IsStrictlySortedBy}
-use Rattle.std.specs.Map.{keys_of, values_of}
+use Rattle.std.proofs.Common.{◌≡◌, ◌∙◌, ℕ, ◌+◌, ◌==◌, Bool, true, false, cond, List, [], ◌∷◌, ◌++◌, Some, None, refl, sym, ap, subst, arith, ◌&&◌, nat_le, if◌then◌else◌, filter, Result, Ok, Err}
+use Rattle.std.specs.{Prelude.⊤, List.{AllByRecursion, Sorted.IsStrictlySortedBy}, Map.{keys_of, values_of}}
 use Rattle.std.proofs.lemmas.Bool.Decides.{nat_tests}
 use Rattle.base_decimals.specs.declared.over.Over.{Over}
-use Rattle.base_types.specs.declared.status.BondStatus.TheVariants.{Unbonded}
-use Rattle.base_types.specs.Orders.{addr_cmp}
-use Rattle.base_roles.specs.declared.entities.Validator.{Validator}
-use Rattle.base_roles.specs.declared.facts.Fact.TheVariants as fact
-use Rattle.base_roles.specs.declared.faults.HookFault.{HookFault}
-use Rattle.base_roles.specs.Hooks.{after, Tells, Stand, Ready, Lawful, Keeps}
-use Rattle.base_roles.specs.Log.{Log}
-use Rattle.base_roles.specs.Orders.{same_addr}
-use Rattle.base_roles.specs.Staked.{Staked, validator_at, put_validator, lists_of}
-use Rattle.base_roles.specs.Flow.{◌>>=◌, each}
+use Rattle.base_types.specs.{declared.status.BondStatus.TheVariants.Unbonded, Orders.addr_cmp}
+use Rattle.base_roles.specs.declared.{entities.Validator.Validator, faults.HookFault.HookFault}
+use Rattle.base_roles.specs.{Hooks.{after, Tells, Stand, Ready, Lawful, Keeps}, Log.Log, Orders.same_addr}
+use Rattle.base_roles.specs.{Staked.{Staked, validator_at, put_validator, lists_of}, Flow.{◌>>=◌, each}}
 use Rattle.base_roles.specs.World.{View, World, Hook, Told, gives, exceeds, removed, noted, hooked, over_view}
 use Rattle.base_roles.proofs.HookLemmas.{stand-noted}
-use Rattle.rule_modules.specs.Amounts.{count_where}
-use Rattle.rule_modules.specs.Answers.{Leaves}
-use Rattle.rule_modules.specs.BondedSet.{HaveOwnOperators, matured}
-use Rattle.rule_modules.specs.Stakes.{is_unbonding, without_validator}
-use Rattle.rule_modules.specs.Unbonding.{validator_removed}
-use Rattle.rule_modules.proofs.OrderLemmas.{same_back}
-use Rattle.rule_modules.proofs.SoundLemmas.{to_points, found_itself}
-use Rattle.mod_staking.specs.Calls.{IsSoundStake, over, behind_log}
-use Rattle.mod_staking.proofs.GroundLemmas.{keeps-noted, keeps_then}
-use Rattle.mod_staking.proofs.ListLemmas.{lists-put, lists-left}
-use Rattle.mod_staking.proofs.RemoveLemmas.{ready-removed}
+use Rattle.base_roles.specs.declared.facts.Fact.TheVariants as fact
+use Rattle.rule_modules.specs.{Amounts.count_where, Answers.Leaves, BondedSet.{HaveOwnOperators, matured}}
+use Rattle.rule_modules.specs.{Stakes.{is_unbonding, without_validator}, Unbonding.validator_removed}
+use Rattle.rule_modules.proofs.{OrderLemmas.same_back, SoundLemmas.{to_points, found_itself}}
+use Rattle.mod_staking.{specs.Calls.{IsSoundStake, over, behind_log}, proofs.GroundLemmas.{keeps-noted, keeps_then}}
+use Rattle.mod_staking.proofs.{ListLemmas.{lists-put, lists-left}, RemoveLemmas.ready-removed}
 use Rattle.mod_staking.proofs.SoundLemmas.{sound-set, found-taken}
-use Rattle.mod_bonded_set.specs.Sets.{AllStand, goes_at, is_due}
-use Rattle.mod_bonded_set.proofs.DueLemmas.{operators_of}
-use Rattle.mod_bonded_set.proofs.JoinLemmas.{nothing_kept}
-use Rattle.mod_bonded_set.proofs.JoinedLemmas.{each-stopped}
-use Rattle.mod_bonded_set.proofs.TokenLemmas.{still_stand}
+use Rattle.mod_bonded_set.{specs.Sets.{AllStand, goes_at, is_due}, proofs.DueLemmas.operators_of}
+use Rattle.mod_bonded_set.proofs.{JoinLemmas.nothing_kept, JoinedLemmas.each-stopped, TokenLemmas.still_stand}
 
 abbrev pub unbonded : Validator → Validator
 unbonded v = record v { status = Unbonded }

@@ -1,25 +1,13 @@
 -- Who joins and who leaves the bonded set, by the validators in the order of power and by the bonded ones.
-use Rattle.std.proofs.Common.{◌≡◌, ◌∙◌, ℕ, ◌+◌, Bool, true, false, cond, List, [], ◌∷◌, Option, Some, None, refl, sym, ap, subst, arith}
-use Rattle.std.specs.Prelude.{◌&&◌, not, nat_lt, filter, take}
-use Rattle.std.specs.declared.cmp.Ordering.{Ordering}
-use Rattle.std.specs.declared.cmp.Ordering.TheVariants.{Less, Equal, Greater}
-use Rattle.std.specs.BTreeMap.{insert_entry}
-use Rattle.std.specs.List.{AllByRecursion}
-use Rattle.std.specs.List.Sorted.{IsStrictlySortedBy}
-use Rattle.std.specs.Map.{keys_of, values_of}
-use Rattle.std.specs.Ordering.{is_eq, match_ordering}
-use Rattle.std.proofs.lemmas.Map.Keys.{sorted_head, sorted_tail}
-use Rattle.base_types.specs.Orders.{addr_cmp}
-use Rattle.base_types.proofs.MapLemmas.{all-put}
-use Rattle.base_roles.specs.declared.entities.Validator.{Validator}
-use Rattle.base_roles.specs.Entries.{at}
-use Rattle.base_roles.specs.Staked.{is_bonded}
+use Rattle.std.proofs.Common.{◌≡◌, ◌∙◌, ℕ, ◌+◌, Bool, true, false, cond, List, [], ◌∷◌, Option, Some, None, refl, sym, ap, subst, arith, ◌&&◌, not, nat_lt, filter, take, Ordering, Less, Equal, Greater, is_eq}
+use Rattle.std.specs.{BTreeMap.insert_entry, List.{AllByRecursion, Sorted.IsStrictlySortedBy}, Map.{keys_of, values_of}}
+use Rattle.std.{specs.Ordering.match_ordering, proofs.lemmas.Map.Keys.{sorted_head, sorted_tail}}
+use Rattle.base_types.{specs.Orders.addr_cmp, proofs.MapLemmas.all-put}
+use Rattle.base_roles.specs.{declared.entities.Validator.Validator, Entries.at, Staked.is_bonded}
 use Rattle.rule_modules.specs.BondedSet.{is_able, rank_of, is_in_bonded_set, joining_of, leaving_of}
 use Rattle.rule_modules.proofs.OrderLemmas.{same_itself}
-use Rattle.mod_staking.specs.declared.places.Standing.{Standing}
-use Rattle.mod_staking.specs.Listed.{Validators}
-use Rattle.mod_staking.specs.Places.{standing_cmp, power_place, bonded_place, in_order, with_if}
-use Rattle.mod_staking.specs.Registered.{AreKeyed}
+use Rattle.mod_staking.specs.{declared.places.Standing.Standing, Listed.Validators}
+use Rattle.mod_staking.specs.{Places.{standing_cmp, power_place, bonded_place, in_order, with_if}, Registered.AreKeyed}
 use Rattle.mod_staking.proofs.ListedLemmas.{standing_total, power_placed}
 use Rattle.mod_staking.proofs.PlaceLemmas.{in_order-ascend, stands_listed}
 use Rattle.mod_bonded_set.specs.Sets.{place, last_place, is_not_behind, is_within}

@@ -1,30 +1,18 @@
 -- How far walks over the validators by power and over the bonded ones have come.
-use Rattle.std.proofs.Common.{◌≡◌, ◌∙◌, ℕ, ◌+◌, ◌≤◌, Bool, true, false, cond, List, [], ◌∷◌, ◌++◌, Option, Some, None, length, append_assoc, refl, sym, ap, subst, arith}
-use Rattle.std.specs.Prelude.{◌&&◌, not, zero, suc, filter, take, drop, option_map}
-use Rattle.std.specs.List.{AllByRecursion}
-use Rattle.std.specs.List.Sorted.{IsStrictlySortedBy}
-use Rattle.std.specs.Map.{keys_of, values_of}
-use Rattle.std.proofs.lemmas.List.{append-nil}
-use Rattle.std.proofs.lemmas.List.Elements.{filter-append}
-use Rattle.std.proofs.lemmas.Map.Entries.{length-values_of}
-use Rattle.std.proofs.lemmas.Map.Keys.{sorted_tail}
+use Rattle.std.proofs.Common.{◌≡◌, ◌∙◌, ℕ, ◌+◌, ◌≤◌, Bool, true, false, cond, List, [], ◌∷◌, ◌++◌, Option, Some, None, length, append_assoc, refl, sym, ap, subst, arith, ◌&&◌, not, zero, suc, filter, take, drop, option_map, append-nil}
+use Rattle.std.specs.{List.{AllByRecursion, Sorted.IsStrictlySortedBy}, Map.{keys_of, values_of}}
+use Rattle.std.proofs.lemmas.{List.Elements.filter-append, Map.{Entries.length-values_of, Keys.sorted_tail}}
 use Rattle.base_types.specs.Orders.{addr_cmp}
 use Rattle.base_table.specs.Tabled.{entry_above}
-use Rattle.base_roles.specs.declared.entities.Validator.{Validator}
-use Rattle.base_roles.specs.Entries.{at}
-use Rattle.base_roles.specs.Staked.{is_bonded}
+use Rattle.base_roles.specs.{declared.entities.Validator.Validator, Entries.at, Staked.is_bonded}
 use Rattle.base_records.proofs.WalkLemmas.{left_of, walk-end, walk-more}
-use Rattle.rule_modules.specs.Amounts.{count_where}
-use Rattle.rule_modules.specs.BondedSet.{is_able, is_in_bonded_set, joining_of, leaving_of}
+use Rattle.rule_modules.specs.{Amounts.count_where, BondedSet.{is_able, is_in_bonded_set, joining_of, leaving_of}}
 use Rattle.rule_modules.proofs.OrderLemmas.{addr_total, same_itself}
-use Rattle.mod_staking.specs.declared.places.Standing.{Standing}
-use Rattle.mod_staking.specs.Listed.{Validators}
-use Rattle.mod_staking.specs.Places.{standing, standing_cmp, power_place, bonded_place, in_order}
-use Rattle.mod_staking.specs.Registered.{AreKeyed}
+use Rattle.mod_staking.specs.{declared.places.Standing.Standing, Listed.Validators}
+use Rattle.mod_staking.specs.{Places.{standing, standing_cmp, power_place, bonded_place, in_order}, Registered.AreKeyed}
 use Rattle.mod_staking.proofs.ListedLemmas.{standing_total, power_placed, bonded_placed, some_if}
 use Rattle.mod_staking.proofs.PlaceLemmas.{in_order-ascend, listed_stands, next_found, found_behind}
-use Rattle.mod_bonded_set.specs.Sets.{place, last_place, is_within}
-use Rattle.mod_bonded_set.proofs.LoopLemmas.{length_count}
+use Rattle.mod_bonded_set.{specs.Sets.{place, last_place, is_within}, proofs.LoopLemmas.length_count}
 use Rattle.mod_bonded_set.proofs.SetLemmas.{by_place}
 use Rattle.mod_bonded_set.proofs.OrderedLemmas.{all_apart, by_place-ascend, joining_is, within_is, bonded_is, leaving_is}
 

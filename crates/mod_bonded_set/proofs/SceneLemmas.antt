@@ -1,24 +1,17 @@
 -- The scene behind the bonded set made anew: who leaves still stands when others have joined, the accounts have what moves
 -- and then hold what is owed, and the hooks stand.
-use Rattle.std.proofs.Common.{◌≡◌, ◌∙◌, ℕ, ◌≤◌, List, [], ◌∷◌, refl, sym, ap, subst}
-use Rattle.std.specs.Prelude.{◌-◌}
+use Rattle.std.proofs.Common.{◌≡◌, ◌∙◌, ℕ, ◌≤◌, List, [], ◌∷◌, refl, sym, ap, subst, ◌-◌}
 use Rattle.std.specs.Map.{values_of}
 use Rattle.base_types.specs.declared.account.Account.TheVariants as account
 use Rattle.base_types.specs.declared.account.Module.TheVariants as holder
 use Rattle.base_types.specs.declared.status.BondStatus.TheVariants.{Unbonding}
-use Rattle.base_roles.specs.declared.entities.Validator.{Validator}
-use Rattle.base_roles.specs.declared.facts.Fact.TheVariants as fact
-use Rattle.base_roles.specs.Holdings.{IsBacked, balance_of}
-use Rattle.base_roles.specs.Hooks.{Tells, Stand, Keeps}
-use Rattle.base_roles.specs.Owing.{Lists}
+use Rattle.base_roles.specs.{declared.entities.Validator.Validator, Holdings.{IsBacked, balance_of}}
+use Rattle.base_roles.specs.{Hooks.{Tells, Stand, Keeps}, Owing.Lists}
 use Rattle.base_roles.specs.Staked.{Staked, put_validator, lists_of, bonded_tokens, other_tokens}
-use Rattle.base_roles.specs.StakeChanges.{HoldsStake}
-use Rattle.base_roles.specs.World.{View, noted}
-use Rattle.base_roles.proofs.HookLemmas.{stand-noted}
+use Rattle.base_roles.{specs.{StakeChanges.HoldsStake, World.{View, noted}}, proofs.HookLemmas.stand-noted}
+use Rattle.base_roles.specs.declared.facts.Fact.TheVariants as fact
 use Rattle.rule_modules.specs.BondedSet.{HaveOwnOperators, joining_of, leaving_of, tokens_of, difference_moved}
-use Rattle.mod_staking.specs.Calls.{IsSoundStake}
-use Rattle.mod_staking.proofs.GroundLemmas.{holds-kept}
-use Rattle.mod_staking.proofs.ListLemmas.{lists-put}
+use Rattle.mod_staking.{specs.Calls.IsSoundStake, proofs.{GroundLemmas.holds-kept, ListLemmas.lists-put}}
 use Rattle.mod_bonded_set.specs.Sets.{AllStand, all_joined, all_left, all_leavings_noted}
 use Rattle.mod_bonded_set.proofs.StakeLemmas.{sound_ascend}
 use Rattle.mod_bonded_set.proofs.StandLemmas.{joining-stand, joining-apart, joining-new, leaving-stand, leaving-apart, leaving-bonded, leaving-stand-still}

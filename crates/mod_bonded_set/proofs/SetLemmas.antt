@@ -1,22 +1,13 @@
 -- The bonded set as the beginning of the validators in the order of power.
-use Rattle.std.proofs.Common.{◌≡◌, ◌∙◌, ℕ, ◌+◌, Bool, true, false, cond, List, [], ◌∷◌, Option, Some, None, refl, sym, ap, subst, arith}
-use Rattle.std.specs.Prelude.{◌==◌, ◌&&◌, ◌||◌, not, nat_lt, zero, suc, if◌then◌else◌, filter, take}
-use Rattle.std.specs.declared.cmp.Ordering.{Ordering}
-use Rattle.std.specs.declared.cmp.Ordering.TheVariants.{Less, Equal, Greater}
-use Rattle.std.specs.BTreeMap.{insert_entry}
-use Rattle.std.specs.List.{AllByRecursion}
-use Rattle.std.specs.List.Sorted.{IsStrictlySortedBy}
-use Rattle.std.specs.Map.{keys_of, values_of}
-use Rattle.std.specs.Ordering.{is_eq, is_lt, ordering_then, ordering_reverse, match_ordering, nat_cmp}
-use Rattle.std.proofs.lemmas.Bool.Decides.{nat_tests}
+use Rattle.std.proofs.Common.{◌≡◌, ◌∙◌, ℕ, ◌+◌, Bool, true, false, cond, List, [], ◌∷◌, Option, Some, None, refl, sym, ap, subst, arith, ◌==◌, ◌&&◌, ◌||◌, not, nat_lt, zero, suc, if◌then◌else◌, filter, take, Ordering, Less, Equal, Greater, is_eq, is_lt, nat_cmp}
+use Rattle.std.specs.{BTreeMap.insert_entry, List.{AllByRecursion, Sorted.IsStrictlySortedBy}, Map.{keys_of, values_of}}
+use Rattle.std.{specs.Ordering.{ordering_then, ordering_reverse, match_ordering}, proofs.lemmas.Bool.Decides.nat_tests}
 use Rattle.std.proofs.lemmas.Map.Keys.{sorted_head, sorted_tail}
 use Rattle.base_types.specs.Orders.{addr_cmp}
-use Rattle.base_roles.specs.declared.entities.Validator.{Validator}
-use Rattle.base_roles.specs.Entries.{at}
+use Rattle.base_roles.specs.{declared.entities.Validator.Validator, Entries.at}
 use Rattle.rule_modules.specs.Amounts.{count_where}
 use Rattle.rule_modules.specs.BondedSet.{power_of, is_able, stands_before, rank_of, placed, by_power}
-use Rattle.mod_staking.specs.declared.places.Standing.{Standing}
-use Rattle.mod_staking.specs.Listed.{Validators}
+use Rattle.mod_staking.specs.{declared.places.Standing.Standing, Listed.Validators}
 use Rattle.mod_staking.specs.Places.{standing_cmp, power_place, in_order, with_if}
 use Rattle.mod_staking.proofs.ListedLemmas.{standing_total, standing_exact}
 use Rattle.mod_bonded_set.specs.Sets.{place, last_place, is_not_behind}

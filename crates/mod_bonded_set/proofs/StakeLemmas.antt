@@ -1,16 +1,11 @@
 -- What sound records of staking say of validators.
 use Rattle.std.proofs.Common.{◌≡◌, ℕ, ◌^◌, ◌≤◌, List, [], ◌∷◌, Some}
-use Rattle.std.specs.List.{AllByRecursion}
-use Rattle.std.specs.List.Sorted.{IsStrictlySortedBy}
-use Rattle.std.specs.Map.{keys_of}
+use Rattle.std.specs.{List.{AllByRecursion, Sorted.IsStrictlySortedBy}, Map.keys_of}
 use Rattle.std.proofs.lemmas.List.Elements.{recursion_from_All}
 use Rattle.base_types.specs.Orders.{addr_cmp}
-use Rattle.base_roles.specs.declared.entities.Validator.{Validator}
-use Rattle.base_roles.specs.Staked.{Staked, validator_at}
+use Rattle.base_roles.specs.{declared.entities.Validator.Validator, Staked.{Staked, validator_at}}
 use Rattle.rule_modules.proofs.SoundLemmas.{to_points}
-use Rattle.mod_staking.specs.Calls.{IsSoundStake}
-use Rattle.mod_staking.specs.Listed.{Validators}
-use Rattle.mod_staking.specs.Registered.{AreKeyed}
+use Rattle.mod_staking.specs.{Calls.IsSoundStake, Listed.Validators, Registered.AreKeyed}
 
 pub sound_ascend : (s : Staked) → IsSoundStake s → IsStrictlySortedBy addr_cmp (keys_of s.validators)
 sound_ascend s h = h.1.validators_ascend

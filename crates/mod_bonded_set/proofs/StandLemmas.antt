@@ -1,21 +1,15 @@
 -- Who joins and who leaves the bonded set stands, once, and is bonded or not.
-use Rattle.std.proofs.Common.{◌≡◌, ◌∙◌, ℕ, Bool, true, false, List, [], ◌∷◌, Some, refl, sym, ap}
-use Rattle.std.specs.Prelude.{◌&&◌, not, filter}
-use Rattle.std.specs.List.{AllByRecursion}
-use Rattle.std.specs.Map.{values_of}
+use Rattle.std.proofs.Common.{◌≡◌, ◌∙◌, ℕ, Bool, true, false, List, [], ◌∷◌, Some, refl, sym, ap, ◌&&◌, not, filter}
+use Rattle.std.specs.{List.AllByRecursion, Map.values_of}
 use Rattle.base_types.specs.declared.status.BondStatus.TheVariants.{Bonded}
-use Rattle.base_roles.specs.declared.entities.Validator.{Validator}
-use Rattle.base_roles.specs.Orders.{same_addr}
+use Rattle.base_roles.specs.{declared.entities.Validator.Validator, Orders.same_addr}
 use Rattle.base_roles.specs.Staked.{Staked, validator_at, put_validator, is_bonded}
 use Rattle.rule_modules.specs.BondedSet.{HaveOwnOperators, is_in_bonded_set, joining_of, leaving_of}
 use Rattle.rule_modules.proofs.OperatorLemmas.{filtered_all, filtered_own, ordered_all, ordered_own, values_own}
 use Rattle.rule_modules.proofs.OrderLemmas.{same_is}
-use Rattle.mod_staking.specs.Calls.{IsSoundStake}
-use Rattle.mod_staking.proofs.IndexLemmas.{keyed_found}
-use Rattle.mod_bonded_set.specs.Sets.{AllStand, all_joined}
-use Rattle.mod_bonded_set.proofs.PassedLemmas.{standing_all}
-use Rattle.mod_bonded_set.proofs.StakeLemmas.{sound_ascend, sound_keyed}
-use Rattle.mod_bonded_set.proofs.TokenLemmas.{still_stand}
+use Rattle.mod_staking.{specs.Calls.IsSoundStake, proofs.IndexLemmas.keyed_found}
+use Rattle.mod_bonded_set.{specs.Sets.{AllStand, all_joined}, proofs.PassedLemmas.standing_all}
+use Rattle.mod_bonded_set.proofs.{StakeLemmas.{sound_ascend, sound_keyed}, TokenLemmas.still_stand}
 
 -- ---- what passes a test
 

@@ -1,20 +1,13 @@
 -- What is owed from the two staking accounts once validators joined or left the bonded set.
 use Rattle.std.proofs.Common.{◌≡◌, ◌∙◌, ℕ, ◌+◌, Bool, true, false, cond, List, [], ◌∷◌, map, Some, ap, arith}
-use Rattle.std.specs.List.{AllByRecursion}
-use Rattle.std.specs.List.Sorted.{IsStrictlySortedBy}
-use Rattle.std.specs.Map.{keys_of}
+use Rattle.std.specs.{List.{AllByRecursion, Sorted.IsStrictlySortedBy}, Map.keys_of}
 use Rattle.std.proofs.lemmas.List.Sums.{sum_by-cons}
-use Rattle.base_types.specs.declared.status.BondStatus.{BondStatus}
-use Rattle.base_types.specs.declared.status.BondStatus.TheVariants.{Bonded, Unbonding}
-use Rattle.base_types.specs.Orders.{addr_cmp}
+use Rattle.base_types.specs.{declared.status.BondStatus.{BondStatus, TheVariants.{Bonded, Unbonding}}, Orders.addr_cmp}
 use Rattle.base_types.proofs.MapLemmas.{ascend-put}
-use Rattle.base_roles.specs.declared.entities.Validator.{Validator}
-use Rattle.base_roles.specs.Orders.{same_addr}
+use Rattle.base_roles.specs.{declared.entities.Validator.Validator, Orders.same_addr}
 use Rattle.base_roles.specs.Staked.{Staked, validator_at, put_validator, is_bonded, bonded_tokens, other_tokens}
-use Rattle.rule_modules.specs.BondedSet.{HaveOwnOperators, tokens_of}
-use Rattle.rule_modules.proofs.OrderLemmas.{addr_total, same_back}
-use Rattle.rule_modules.proofs.SoundLemmas.{found-put}
-use Rattle.rule_modules.proofs.TokenLemmas.{tokens-put}
+use Rattle.rule_modules.{specs.BondedSet.{HaveOwnOperators, tokens_of}, proofs.OrderLemmas.{addr_total, same_back}}
+use Rattle.rule_modules.proofs.{SoundLemmas.found-put, TokenLemmas.tokens-put}
 use Rattle.mod_bonded_set.specs.Sets.{AllStand, all_joined, all_left}
 
 abbrev others : BondStatus → Bool

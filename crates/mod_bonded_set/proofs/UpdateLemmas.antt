@@ -1,37 +1,24 @@
 -- The rule of the bonded set from its parts, and what the staking accounts hold behind it.
-use Rattle.std.proofs.Common.{◌≡◌, ◌∙◌, ℕ, ◌+◌, ◌<◌, ◌≤◌, ◌==◌, Bool, true, false, cond, List, [], ◌∷◌, refl, sym, ap, subst, arith}
-use Rattle.std.specs.Prelude.{◌-◌, nat_lt, if◌then◌else◌, Result, Ok, Err}
-use Rattle.std.specs.List.{AllByRecursion}
-use Rattle.std.specs.List.Sorted.{IsStrictlySortedBy}
-use Rattle.std.specs.Map.{keys_of, values_of}
+use Rattle.std.proofs.Common.{◌≡◌, ◌∙◌, ℕ, ◌+◌, ◌<◌, ◌≤◌, ◌==◌, Bool, true, false, cond, List, [], ◌∷◌, refl, sym, ap, subst, arith, ◌-◌, nat_lt, if◌then◌else◌, Result, Ok, Err}
+use Rattle.std.specs.{List.{AllByRecursion, Sorted.IsStrictlySortedBy}, Map.{keys_of, values_of}}
 use Rattle.std.proofs.lemmas.Bool.Decides.{nat_tests}
 use Rattle.base_decimals.specs.declared.over.Over.{Over}
 use Rattle.base_types.specs.declared.account.Account.TheVariants as account
 use Rattle.base_types.specs.declared.account.Module.TheVariants as holder
-use Rattle.base_types.specs.declared.status.BondStatus.TheVariants.{Bonded, Unbonding}
-use Rattle.base_types.specs.Orders.{addr_cmp}
+use Rattle.base_types.specs.{declared.status.BondStatus.TheVariants.{Bonded, Unbonding}, Orders.addr_cmp}
 use Rattle.base_coins.specs.Coins.{Money}
-use Rattle.base_roles.specs.declared.entities.Validator.{Validator}
+use Rattle.base_roles.specs.declared.{entities.Validator.Validator, faults.HookFault.HookFault, params.Ctx.Ctx}
+use Rattle.base_roles.specs.{Holdings.{IsBacked, balance_of}, Hooks.{Tells, Stand}, Owing.Lists}
+use Rattle.base_roles.specs.{Staked.{Staked, bonded_tokens, other_tokens, is_bonded}, StakeChanges.HoldsStake}
+use Rattle.base_roles.specs.{Flow.{◌>>=◌, each}, World.{View, World, Hook, Told, sent, noted, over_view}}
 use Rattle.base_roles.specs.declared.facts.Fact.TheVariants as fact
-use Rattle.base_roles.specs.declared.faults.HookFault.{HookFault}
 use Rattle.base_roles.specs.declared.faults.HookFault.TheVariants as hook
-use Rattle.base_roles.specs.declared.params.Ctx.{Ctx}
-use Rattle.base_roles.specs.Holdings.{IsBacked, balance_of}
-use Rattle.base_roles.specs.Hooks.{Tells, Stand}
-use Rattle.base_roles.specs.Owing.{Lists}
-use Rattle.base_roles.specs.Staked.{Staked, bonded_tokens, other_tokens, is_bonded}
-use Rattle.base_roles.specs.StakeChanges.{HoldsStake}
-use Rattle.base_roles.specs.Flow.{◌>>=◌, each}
-use Rattle.base_roles.specs.World.{View, World, Hook, Told, sent, noted, over_view}
-use Rattle.rule_modules.specs.Amounts.{bond_coins}
-use Rattle.rule_modules.specs.Answers.{Leaves}
+use Rattle.rule_modules.specs.{Amounts.bond_coins, Answers.Leaves}
 use Rattle.rule_modules.specs.BondedSet.{HaveOwnOperators, joined_set, left_set, set_updated, joining_of, leaving_of, tokens_of, difference_moved}
-use Rattle.rule_modules.specs.Delegating.{pool}
-use Rattle.rule_modules.specs.Unbondings.{completion}
+use Rattle.rule_modules.specs.{Delegating.pool, Unbondings.completion}
 use Rattle.mod_staking.proofs.GroundLemmas.{paid-accounts, stand-paid}
 use Rattle.mod_bonded_set.specs.Sets.{AllStand, all_joined, all_left, all_leavings_noted}
-use Rattle.mod_bonded_set.proofs.JoinedLemmas.{memory_wanting}
-use Rattle.mod_bonded_set.proofs.LeftLemmas.{each-left}
+use Rattle.mod_bonded_set.proofs.{JoinedLemmas.memory_wanting, LeftLemmas.each-left}
 use Rattle.mod_bonded_set.proofs.TokenLemmas.{tokens-joined, tokens-left}
 
 -- ---- the rule

@@ -1,22 +1,15 @@
 -- What calls answer and leave that carry out rules, one after another.
-use Rattle.std.proofs.Common.{◌≡◌, ◌++◌, Ok, Err, refl, sym, ap, subst}
-use Rattle.std.specs.Prelude.{Result, ⊤, OnOk, IfErr}
+use Rattle.std.proofs.Common.{◌≡◌, ◌++◌, Ok, Err, refl, sym, ap, subst, Result, OnOk, IfErr}
+use Rattle.std.specs.Prelude.{⊤}
 use Rattle.base_decimals.specs.declared.over.Over.{Over}
-use Rattle.base_roles.specs.declared.faults.HookFault.{HookFault}
+use Rattle.base_roles.specs.declared.{faults.HookFault.HookFault, refusal.Refusal.{Refusal, TheVariants.Overflow}}
+use Rattle.base_roles.specs.{Answers.Answers, Log.Log, Flow.{◌>>=◌, stopping}, Stops.stop_of_hook}
+use Rattle.base_roles.specs.World.{View, Told, gives, exceeds}
 use Rattle.base_roles.specs.declared.faults.HookFault.TheVariants as hook
 use Rattle.base_roles.specs.declared.faults.MessageFault.TheVariants as stop
-use Rattle.base_roles.specs.declared.refusal.Refusal.{Refusal}
-use Rattle.base_roles.specs.declared.refusal.Refusal.TheVariants.{Overflow}
-use Rattle.base_roles.specs.Answers.{Answers}
-use Rattle.base_roles.specs.Log.{Log}
-use Rattle.base_roles.specs.Flow.{◌>>=◌, stopping}
-use Rattle.base_roles.specs.Stops.{stop_of_hook}
-use Rattle.base_roles.specs.World.{View, Told, gives, exceeds}
 use Rattle.rule_modules.specs.Distribution.{Shared, told_of, left_by}
 use Rattle.mod_sums.specs.Faults.{IsExcessOf}
-use Rattle.mod_distribution.specs.Calls.{CarriesOut, CarriesOutOrRefuses}
-use Rattle.mod_distribution.specs.Kept.{KeptShared}
-use Rattle.mod_distribution.specs.Stands.{KeepsShared}
+use Rattle.mod_distribution.specs.{Calls.{CarriesOut, CarriesOutOrRefuses}, Kept.KeptShared, Stands.KeepsShared}
 
 -- what a rule gives: an answer, records, the ground and the log
 abbrev pub Ruled : Type 0 → Type 0

@@ -1,44 +1,26 @@
 -- Coins that join the pool, or leave it.
-use Rattle.std.proofs.Common.{◌≡◌, ◌∙◌, ℕ, ◌+◌, ◌*◌, ◌^◌, ◌≤◌, true, cond, List, Ok, Err, refl, sym, ap, subst, arith}
-use Rattle.std.specs.Prelude.{◌-◌, not, IfOk, Result, ⊤, OnOk}
-use Rattle.std.proofs.lemmas.Map.Text.{is_eq-slice_cmp}
-use Rattle.std.proofs.lemmas.Slice.Eq.{bytes_eq-Decides}
-use Rattle.std.specs.BTreeMap.{is_at}
-use Rattle.base_types.specs.declared.account.Account.{Account}
+use Rattle.std.proofs.Common.{◌≡◌, ◌∙◌, ℕ, ◌+◌, ◌*◌, ◌^◌, ◌≤◌, true, cond, List, Ok, Err, refl, sym, ap, subst, arith, ◌-◌, not, IfOk, Result, OnOk}
+use Rattle.std.{specs.{Prelude.⊤, BTreeMap.is_at}, proofs.lemmas.{Map.Text.is_eq-slice_cmp, Slice.Eq.bytes_eq-Decides}}
+use Rattle.base_types.specs.{declared.account.Account.Account, Orders.denom_cmp}
 use Rattle.base_types.specs.declared.account.Account.TheVariants as account
 use Rattle.base_types.specs.declared.account.Module.TheVariants as holder
-use Rattle.base_types.specs.Orders.{denom_cmp}
 use Rattle.base_coins.specs.Coins.{Money, IsMoney}
-use Rattle.base_roles.specs.declared.faults.MessageFault.{MessageFault}
-use Rattle.base_roles.specs.declared.refusal.Refusal.{Refusal}
+use Rattle.base_roles.specs.declared.{faults.MessageFault.MessageFault, refusal.Refusal.Refusal}
 use Rattle.base_roles.specs.declared.refusal.Refusal.TheVariants.{InsufficientFunds, NonPositive, NotAuthority, Overflow, PoolTooSmall}
+use Rattle.base_roles.specs.{Holdings.{Holdings, IsBacked, balance_of, coin_moved, is_short, with_balance}, Hooks.Stand}
+use Rattle.base_roles.specs.{Owing.Lists, Orders.same_addr, World.View}
 use Rattle.base_roles.proofs.HoldingLemmas.{ascend-changed, backed-coin_moved, balance-changed, balance-most}
-use Rattle.base_roles.specs.Holdings.{Holdings, IsBacked, balance_of, coin_moved, is_short, with_balance}
-use Rattle.base_roles.specs.Hooks.{Stand}
-use Rattle.base_roles.specs.Owing.{Lists}
-use Rattle.base_roles.specs.Orders.{same_addr}
-use Rattle.base_roles.specs.World.{View}
-use Rattle.law_soundness.proofs.Bank.{each_within, known_enough}
-use Rattle.law_soundness.proofs.Burns.{total_in}
-use Rattle.law_soundness.proofs.Moves.{HooksFit, Leaves, user_is_other}
-use Rattle.law_soundness.proofs.Names.{units_known}
-use Rattle.law_soundness.proofs.Pool.{funded_leaves, spent_leaves}
-use Rattle.law_soundness.proofs.Purses.{HasJoined, has_joined}
+use Rattle.law_soundness.proofs.{Bank.{each_within, known_enough}, Burns.total_in}
+use Rattle.law_soundness.proofs.{Moves.{HooksFit, Leaves, user_is_other}, Names.units_known}
+use Rattle.law_soundness.proofs.{Pool.{funded_leaves, spent_leaves}, Purses.{HasJoined, has_joined}}
 use Rattle.law_soundness.proofs.Steps.{on_lifted_then}
-use Rattle.rule_modules.proofs.GoingLemmas.{on_stop}
-use Rattle.rule_modules.specs.Amounts.{in_units, is_empty}
-use Rattle.rule_modules.specs.Answers.{AnswersHeld}
-use Rattle.rule_modules.specs.Distribution.{Shared}
-use Rattle.rule_modules.specs.Purses.{is_above_pool, pool_joined}
+use Rattle.rule_modules.{proofs.GoingLemmas.on_stop, specs.{Amounts.{in_units, is_empty}, Answers.AnswersHeld}}
+use Rattle.rule_modules.specs.{Distribution.Shared, Purses.{is_above_pool, pool_joined}}
 use Rattle.rule_modules.specs.Withdrawals.{pool_funded, pool_spent}
-use Rattle.mod_allocation.specs.Calls.{shared_with}
-use Rattle.mod_allocation.specs.Owed.{AreWithin, owed_by}
+use Rattle.mod_allocation.specs.{Calls.shared_with, Owed.{AreWithin, owed_by}}
 use Rattle.mod_periods.specs.Stands.{KeepsRewards}
-use Rattle.mod_distribution.specs.Calls.{PoolsOrRefuses, StandFor}
-use Rattle.mod_distribution.specs.Fitting.{Any, hooks_fit, stand_from}
-use Rattle.mod_distribution.specs.Kept.{KeptShared}
-use Rattle.mod_distribution.specs.Stands.{KeepsShared}
-use Rattle.mod_distribution.specs.Tells.{distribution_tells}
+use Rattle.mod_distribution.specs.{Calls.{PoolsOrRefuses, StandFor}, Fitting.{Any, hooks_fit, stand_from}}
+use Rattle.mod_distribution.specs.{Kept.KeptShared, Stands.KeepsShared, Tells.distribution_tells}
 
 same_denom : (d : List ℕ) → is_at (denom_cmp d) d ≡ true
 same_denom d = is_eq-slice_cmp d d ∙ (bytes_eq-Decides d d).1 refl

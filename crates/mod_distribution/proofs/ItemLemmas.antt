@@ -1,24 +1,17 @@
 -- The items of distribution, each of its kind, and with one more.
-use Rattle.std.proofs.Common.{◌≡◌, ◌∙◌, ℕ, Bool, true, false, List, [], ◌∷◌, ◌++◌, refl, sym, ap, subst}
-use Rattle.std.specs.Prelude.{◌||◌, is_some}
-use Rattle.std.specs.BTreeMap.{insert_entry}
-use Rattle.std.specs.List.Sorted.{IsStrictlySortedBy}
-use Rattle.std.specs.Map.{keys_of}
+use Rattle.std.proofs.Common.{◌≡◌, ◌∙◌, ℕ, Bool, true, false, List, [], ◌∷◌, ◌++◌, refl, sym, ap, subst, ◌||◌, is_some}
+use Rattle.std.specs.{BTreeMap.insert_entry, List.Sorted.IsStrictlySortedBy, Map.keys_of}
 use Rattle.base_types.specs.Orders.{addr_cmp}
-use Rattle.base_roles.specs.declared.items.Item.{Item}
+use Rattle.base_roles.specs.{declared.items.Item.Item, Orders.pair_cmp, Items.{IsOnce, IsAdded, AreChanges, HasRoom}}
 use Rattle.base_roles.specs.declared.items.Item.TheVariants as item
-use Rattle.base_roles.specs.Orders.{pair_cmp}
-use Rattle.base_roles.specs.Items.{IsOnce, IsAdded, AreChanges, HasRoom}
-use Rattle.rule_modules.proofs.OrderLemmas.{addr_total, pair_total}
-use Rattle.rule_modules.specs.Purses.{Purses}
-use Rattle.base_records.specs.Kinds.{AreOf, either}
-use Rattle.base_records.specs.Items.{rows_of, AnyValue}
+use Rattle.rule_modules.{proofs.OrderLemmas.{addr_total, pair_total}, specs.Purses.Purses}
+use Rattle.base_records.specs.{Kinds.{AreOf, either}, Items.{rows_of, AnyValue}}
 use Rattle.base_records.proofs.KindLemmas.{added-first, added-second, by-either, changes-both, of-both, once-both}
 use Rattle.base_records.proofs.MemberLemmas.{member, contained, member-left, member-right}
 use Rattle.base_records.proofs.RowLemmas.{row-added, rows-of-kind}
 use Rattle.mod_allocation.specs.Items.{is_shared, is_pool, purse_item, purse_gone, purse_entry, pool_item, same_purse}
-use Rattle.mod_allocation.specs.Items as alloc
 use Rattle.mod_allocation.proofs.KindLemmas.{purse-rowed, of-pool}
+use Rattle.mod_allocation.specs.Items as alloc
 use Rattle.mod_periods.specs.Kept as f1_kept
 use Rattle.mod_periods.proofs.KindLemmas.{current-rowed, historical-rowed, start-rowed, event-rowed}
 use Rattle.mod_periods.proofs.OrderLemmas.{period_total, event_total}

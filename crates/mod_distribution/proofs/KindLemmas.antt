@@ -1,14 +1,11 @@
 -- To whom payments go as a kind of items, and the kinds of distribution told apart.
-use Rattle.std.proofs.Common.{◌≡◌, ◌∙◌, ℕ, true, false, List, refl, sym, ap, inl, inr}
-use Rattle.std.specs.Prelude.{◌⊎◌, is_some}
+use Rattle.std.proofs.Common.{◌≡◌, ◌∙◌, ℕ, true, false, List, refl, sym, ap, inl, inr, ◌⊎◌, is_some}
 use Rattle.base_types.specs.Orders.{addr_cmp}
 use Rattle.base_roles.specs.declared.items.Item.{Item}
 use Rattle.base_roles.specs.declared.items.Item.TheVariants as item
 use Rattle.rule_modules.proofs.SoundLemmas.{exact_addr}
-use Rattle.base_records.specs.Kinds.{AreApart, IsByKey, either}
-use Rattle.base_records.specs.Items.{AnyValue, IsRowed}
-use Rattle.base_records.proofs.RowedLemmas.{IsOfKind, IsOfOther, rowed}
-use Rattle.base_records.proofs.SameLemmas.{bytes, bytes_itself}
+use Rattle.base_records.specs.{Kinds.{AreApart, IsByKey, either}, Items.{AnyValue, IsRowed}}
+use Rattle.base_records.proofs.{RowedLemmas.{IsOfKind, IsOfOther, rowed}, SameLemmas.{bytes, bytes_itself}}
 use Rattle.mod_allocation.specs.Items.{is_shared}
 use Rattle.mod_periods.specs.Items.{is_record}
 use Rattle.mod_distribution.specs.Items.{payee_item, payee_gone, payee_entry, same_payee, is_payee}

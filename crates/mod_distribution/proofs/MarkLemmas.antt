@@ -1,24 +1,19 @@
 -- Periods, purses and payees that are marked together, seen as one.
-use Rattle.std.proofs.Common.{◌≡◌, ◌∙◌, ℕ, Bool, true, false, List, [], ◌∷◌, ◌++◌, append-nil, length, Ok, Err, refl, sym, ap}
-use Rattle.std.specs.Prelude.{◌≢◌, ◌<◌, ◌||◌, if◌then◌else◌, Result, OnOk, OnErr}
+use Rattle.std.proofs.Common.{◌≡◌, ◌∙◌, ℕ, Bool, true, false, List, [], ◌∷◌, ◌++◌, append-nil, length, Ok, Err, refl, sym, ap, ◌≢◌, ◌<◌, ◌||◌, if◌then◌else◌, Result, OnOk, OnErr}
 use Rattle.base_coins.specs.Coins.{Money}
 use Rattle.base_roles.specs.declared.facts.Fact.TheVariants as fact
-use Rattle.rule_modules.specs.Amounts.{is_empty}
+use Rattle.rule_modules.specs.{Amounts.is_empty, Purses.Purses}
 use Rattle.mod_distribution.specs.Calls.{commission_told}
-use Rattle.base_roles.specs.declared.bank.Ground.{Ground}
-use Rattle.base_roles.specs.declared.facts.Fact.{Fact}
-use Rattle.base_roles.specs.Ground.{CanBeUndone}
+use Rattle.mod_distribution.specs.Kept.{HaveSameMarks, Distributed, KeptShared, Payees, SharedGoesOn, distributed, kept_with, marks_of, two_marks}
+use Rattle.mod_distribution.proofs.CarryLemmas.{on_both}
+use Rattle.base_roles.specs.{declared.{bank.Ground.Ground, facts.Fact.Fact}, Ground.CanBeUndone}
 use Rattle.base_table.specs.Tabled.{Tabled}
 use Rattle.base_records.proofs.MarkLemmas.{none_from_length, pushed_length, popped_length, length-side, side-push, some_marks}
-use Rattle.rule_modules.specs.Purses.{Purses}
-use Rattle.base_records.specs.Marks.{side_by_side}
+use Rattle.base_records.{proofs.KindLemmas.on_ok, specs.Marks.side_by_side}
 use Rattle.mod_allocation.specs.Kept.{Pursed}
 use Rattle.mod_allocation.specs.Kept as alloc
-use Rattle.base_records.proofs.KindLemmas.{on_ok}
-use Rattle.mod_distribution.proofs.CarryLemmas.{on_both}
 use Rattle.mod_periods.specs.Kept.{Recorded}
 use Rattle.mod_periods.specs.Kept as f1
-use Rattle.mod_distribution.specs.Kept.{HaveSameMarks, Distributed, KeptShared, Payees, SharedGoesOn, distributed, kept_with, marks_of, two_marks}
 
 -- ---- marks side by side
 

@@ -1,35 +1,22 @@
 -- What leaves a purse is paid: the account has as much, and the rule of a payment is carried out.
-use Rattle.std.proofs.Common.{◌≡◌, ◌∙◌, ℕ, ◌+◌, ◌*◌, ◌^◌, ◌≤◌, Bool, true, false, cond, List, [], ◌∷◌, ◌++◌, None, Ok, refl, sym, ap, subst, arith}
-use Rattle.std.specs.Prelude.{◌&&◌, is_some}
+use Rattle.std.proofs.Common.{◌≡◌, ◌∙◌, ℕ, ◌+◌, ◌*◌, ◌^◌, ◌≤◌, Bool, true, false, cond, List, [], ◌∷◌, ◌++◌, None, Ok, refl, sym, ap, subst, arith, ◌&&◌, is_some}
 use Rattle.base_types.specs.declared.account.Account.TheVariants as account
 use Rattle.base_types.specs.declared.account.Module.TheVariants as holder
 use Rattle.base_types.specs.Orders.{addr_cmp}
 use Rattle.base_coins.specs.Coins.{Money, amount_of, coins_added, coins_taken, fractions, smaller_of, whole_coins}
-use Rattle.base_roles.specs.declared.entities.Purse.{Purse}
-use Rattle.base_roles.specs.declared.facts.Fact.{Fact}
+use Rattle.base_roles.specs.{declared.{entities.Purse.Purse, facts.Fact.Fact}, Entries.at, Holdings.balance_of}
+use Rattle.base_roles.specs.{Flow.{◌>>=◌}, World.View, Orders.pair_cmp}
 use Rattle.base_roles.specs.declared.facts.Fact.TheVariants as fact
-use Rattle.base_roles.specs.Entries.{at}
-use Rattle.base_roles.specs.Holdings.{balance_of}
 use Rattle.base_roles.specs.Log as log
-use Rattle.base_roles.specs.Flow.{◌>>=◌}
-use Rattle.base_roles.specs.World.{View}
 use Rattle.law_soundness.proofs.Rewards.{pair_at, put_found}
-use Rattle.rule_modules.proofs.EntryLemmas.{at-taken}
-use Rattle.rule_modules.proofs.OrderLemmas.{pair_total, same_itself}
-use Rattle.rule_modules.specs.Distribution.{Shared, payee_of, paid_to}
-use Rattle.rule_modules.specs.Periods.{Rewards, without_start}
+use Rattle.rule_modules.proofs.{EntryLemmas.at-taken, OrderLemmas.{pair_total, same_itself}}
+use Rattle.rule_modules.specs.{Distribution.{Shared, payee_of, paid_to}, Periods.{Rewards, without_start}}
 use Rattle.rule_modules.specs.Purses.{Purses, current_emptied, current_pooled, paid_out, pool_joined, pooled_told, purse_of, with_purse}
-use Rattle.base_roles.specs.Orders.{pair_cmp}
-use Rattle.mod_allocation.proofs.RuleLemmas.{same_ok, step_parts}
-use Rattle.mod_allocation.specs.Calls.{current_out, purse_at}
+use Rattle.mod_allocation.{proofs.RuleLemmas.{same_ok, step_parts}, specs.Calls.{current_out, purse_at}}
 use Rattle.mod_allocation.specs.Owed.{AreWithin, IsMoved, CanPay, nothing_more, owed_by}
-use Rattle.mod_periods.specs.Kept.{info_of}
+use Rattle.mod_periods.specs.{Kept.info_of, Scenes.HasPeriods, Stands.KeepsRewards}
 use Rattle.mod_periods.specs.Kept as f1
-use Rattle.mod_periods.specs.Scenes.{HasPeriods}
-use Rattle.mod_periods.specs.Stands.{KeepsRewards}
-use Rattle.mod_distribution.specs.Calls.{CarriesOut, reward_paid}
-use Rattle.mod_distribution.specs.Kept.{KeptShared, payee_in}
-use Rattle.mod_distribution.specs.Stands.{KeepsShared}
+use Rattle.mod_distribution.specs.{Calls.{CarriesOut, reward_paid}, Kept.{KeptShared, payee_in}, Stands.KeepsShared}
 use Rattle.mod_distribution.proofs.CarryLemmas.{Ruled, carried}
 
 -- ---- what is owed

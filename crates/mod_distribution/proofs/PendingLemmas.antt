@@ -1,33 +1,22 @@
 -- What is pending: the end of the period is told from the purse, and the reward from the increment.
-use Rattle.std.proofs.Common.{◌≡◌, ◌∙◌, ℕ, ◌*◌, ◌^◌, ◌==◌, Bool, true, false, List, [], Some, Ok, Err, refl, sym, ap, subst}
-use Rattle.std.specs.Prelude.{if◌then◌else◌, unwrap_or, Result, IfOk, IfErr}
+use Rattle.std.proofs.Common.{◌≡◌, ◌∙◌, ℕ, ◌*◌, ◌^◌, ◌==◌, Bool, true, false, List, [], Some, Ok, Err, refl, sym, ap, subst, if◌then◌else◌, unwrap_or, Result, IfOk, IfErr}
 use Rattle.base_decimals.specs.declared.over.Over.{Over}
 use Rattle.base_types.specs.Orders.{addr_cmp}
 use Rattle.base_coins.specs.Coins.{Money, coins_quo_cut, coins_taken, smaller_of}
-use Rattle.base_roles.specs.declared.entities.Purse.{Purse}
-use Rattle.base_roles.specs.declared.entities.Validator.{Validator}
-use Rattle.base_roles.specs.declared.faults.HookFault.{HookFault}
+use Rattle.base_roles.specs.declared.{entities.{Purse.Purse, Validator.Validator}, faults.HookFault.HookFault}
+use Rattle.base_roles.specs.{Entries.at, Items.no_purse, Flow.{◌>>=◌}, World.View}
 use Rattle.base_roles.specs.declared.faults.HookFault.TheVariants as hook
-use Rattle.base_roles.specs.Entries.{at}
-use Rattle.base_roles.specs.Items.{no_purse}
-use Rattle.base_roles.specs.Flow.{◌>>=◌}
-use Rattle.base_roles.specs.World.{View}
 use Rattle.law_soundness.proofs.Rewards.{put_found}
 use Rattle.rule_modules.specs.Distribution.{Shared, current_taken, pending}
 use Rattle.rule_modules.specs.Periods.{periods_of, reward_after, start_of}
 use Rattle.rule_modules.specs.Purses.{Purses, current_emptied, current_pooled, purse_of, with_purse}
 use Rattle.rule_modules.specs.Sound.{PursesAreSound}
 use Rattle.base_shares.specs.Shares.{value_even_of}
-use Rattle.mod_allocation.proofs.CallLemmas.{lost_joins, lost_pooled}
-use Rattle.mod_allocation.proofs.RuleLemmas.{ok_or_err}
-use Rattle.mod_allocation.specs.Calls.{purse_at}
+use Rattle.mod_allocation.{proofs.{CallLemmas.{lost_joins, lost_pooled}, RuleLemmas.ok_or_err}, specs.Calls.purse_at}
 use Rattle.mod_allocation.specs.Owed.{AreWithin, nothing_more}
 use Rattle.mod_periods.specs.Answers.{Gives}
-use Rattle.mod_distribution.specs.Calls.{increment_at_end, left_at_end}
-use Rattle.mod_distribution.specs.Kept.{KeptShared}
-use Rattle.mod_distribution.specs.Stands.{KeepsShared}
-use Rattle.mod_distribution.proofs.PayLemmas.{joined_purses}
-use Rattle.mod_distribution.proofs.WithdrawLemmas.{pending_is, pending_over}
+use Rattle.mod_distribution.specs.{Calls.{increment_at_end, left_at_end}, Kept.KeptShared, Stands.KeepsShared}
+use Rattle.mod_distribution.proofs.{PayLemmas.joined_purses, WithdrawLemmas.{pending_is, pending_over}}
 
 -- what taking the current rewards would leave of the purse
 pub record IsTaken (val : Validator) (p : Purses) (increment : Money) (left : Money) : Type 0 where

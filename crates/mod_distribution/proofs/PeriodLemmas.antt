@@ -1,46 +1,29 @@
 -- The end of a period, the start of a delegation's rewards and a slash, as the calls of periods and purses leave them.
-use Rattle.std.proofs.Common.{◌≡◌, ◌≢◌, ◌∙◌, ℕ, ◌+◌, ◌*◌, ◌^◌, ◌≤◌, ◌==◌, Bool, true, false, cond, List, [], ◌∷◌, ◌++◌, append-nil, Some, Ok, Err, refl, sym, ap, subst, arith}
-use Rattle.std.specs.Prelude.{◌-◌, if◌then◌else◌, All, is_some, option_map, unwrap_or, Result, ⊤, OnOk, OnErr, IfOk, IfErr}
-use Rattle.std.specs.List.{AllByRecursion}
-use Rattle.std.proofs.lemmas.Bool.Decides.{nat_tests}
+use Rattle.std.proofs.Common.{◌≡◌, ◌≢◌, ◌∙◌, ℕ, ◌+◌, ◌*◌, ◌^◌, ◌≤◌, ◌==◌, Bool, true, false, cond, List, [], ◌∷◌, ◌++◌, append-nil, Some, Ok, Err, refl, sym, ap, subst, arith, ◌-◌, if◌then◌else◌, All, is_some, option_map, unwrap_or, Result, OnOk, OnErr, IfOk, IfErr}
+use Rattle.std.{specs.{Prelude.⊤, List.AllByRecursion}, proofs.lemmas.Bool.Decides.nat_tests}
 use Rattle.std.proofs.lemmas.List.Elements.{All-from_recursion}
-use Rattle.base_decimals.specs.Decimals.{period_over}
-use Rattle.base_decimals.specs.declared.over.Over.{Over}
+use Rattle.base_decimals.specs.{Decimals.period_over, declared.over.Over.Over}
 use Rattle.base_types.specs.Orders.{addr_cmp}
 use Rattle.base_coins.specs.Coins.{Money, coins_added, coins_quo_cut}
-use Rattle.base_roles.specs.declared.entities.SlashEvent.{SlashEvent}
-use Rattle.base_roles.specs.declared.entities.Validator.{Validator}
-use Rattle.base_roles.specs.declared.facts.Fact.{Fact}
+use Rattle.base_roles.specs.declared.{entities.{SlashEvent.SlashEvent, Validator.Validator}, facts.Fact.Fact}
+use Rattle.base_roles.specs.{declared.faults.HookFault.HookFault, Answers.Answers, Items.no_purse, Entries.at}
+use Rattle.base_roles.specs.{Flow.{◌>>=◌, ◌>>◌, stop_if}, Log.Log, World.{View, created, removed, noted}}
 use Rattle.base_roles.specs.declared.facts.Fact.TheVariants as fact
-use Rattle.base_roles.specs.declared.faults.HookFault.{HookFault}
 use Rattle.base_roles.specs.declared.faults.HookFault.TheVariants as hook
-use Rattle.base_roles.specs.Answers.{Answers}
-use Rattle.base_roles.specs.Items.{no_purse}
-use Rattle.base_roles.specs.Entries.{at}
-use Rattle.base_roles.specs.Flow.{◌>>=◌, ◌>>◌, stop_if}
-use Rattle.base_roles.specs.Log.{Log}
 use Rattle.base_roles.specs.Log as log
-use Rattle.base_roles.specs.World.{View, created, removed, noted}
-use Rattle.law_soundness.proofs.Periods.{some_unwrap}
-use Rattle.law_soundness.proofs.Rewards.{put_found}
+use Rattle.law_soundness.proofs.{Periods.some_unwrap, Rewards.put_found}
 use Rattle.base_records.proofs.KindLemmas.{is_ok, on_ok}
 use Rattle.rule_modules.specs.Amounts.{count_where, is_empty, over_facts}
 use Rattle.rule_modules.specs.Distribution.{Shared, current_taken, distribution_told, ended, paid_to, payee_of, records_made, records_removed, slash_recorded, told_of, unlogged}
 use Rattle.rule_modules.specs.Periods.{Periods, Rewards, event_recorded, initial_records, last_ended, period_ended, periods_of, ratio_at, references_of, starts_of, with_periods, without_periods}
 use Rattle.rule_modules.specs.Purses.{Purses, closed, purse_of, current_emptied, current_pooled, pooled_told, with_purse}
-use Rattle.mod_allocation.proofs.AnswerLemmas.{excess_then}
-use Rattle.mod_allocation.proofs.RuleLemmas.{same_ok, err_or_ok, step_parts}
-use Rattle.mod_sums.specs.Faults.{IsExcessOf}
+use Rattle.mod_allocation.proofs.{AnswerLemmas.excess_then, RuleLemmas.{same_ok, err_or_ok, step_parts}}
 use Rattle.mod_allocation.specs.Calls.{current_out}
-use Rattle.mod_periods.specs.Answers.{Ends}
-use Rattle.mod_periods.specs.Kept.{current_of, events_of}
+use Rattle.mod_sums.specs.Faults.{IsExcessOf}
+use Rattle.mod_periods.specs.{Answers.Ends, Kept.{current_of, events_of}, Scenes.HasPeriods}
+use Rattle.mod_periods.specs.{Stands.{KeepsRewards, AreSound}, Steps.running}
 use Rattle.mod_periods.specs.Kept as f1
-use Rattle.mod_periods.specs.Scenes.{HasPeriods}
-use Rattle.mod_periods.specs.Stands.{KeepsRewards, AreSound}
-use Rattle.mod_periods.specs.Steps.{running}
-use Rattle.mod_distribution.specs.Calls.{CarriesOut, commission_told}
-use Rattle.mod_distribution.specs.Kept.{KeptShared, payee_in}
-use Rattle.mod_distribution.specs.Stands.{KeepsShared}
+use Rattle.mod_distribution.specs.{Calls.{CarriesOut, commission_told}, Kept.{KeptShared, payee_in}, Stands.KeepsShared}
 use Rattle.mod_distribution.proofs.ReadyLemmas.{some_mapped}
 use Rattle.mod_distribution.proofs.CarryLemmas.{Ruled, answers_given, carried_from, exceeds_as}
 

@@ -1,44 +1,27 @@
 -- A commission is withdrawn, fees are allocated, and payees are set, as the calls leave them.
-use Rattle.std.proofs.Common.{◌≡◌, ◌∙◌, ℕ, ◌+◌, ◌*◌, ◌^◌, ◌≤◌, Bool, true, false, List, [], ◌∷◌, ◌++◌, Some, None, Option, Ok, Err, refl, sym, ap, subst, arith}
-use Rattle.std.specs.Prelude.{nat_le, if◌then◌else◌, is_some, unwrap_or, Result, ⊤}
-use Rattle.base_types.specs.declared.account.Account.{Account}
+use Rattle.std.proofs.Common.{◌≡◌, ◌∙◌, ℕ, ◌+◌, ◌*◌, ◌^◌, ◌≤◌, Bool, true, false, List, [], ◌∷◌, ◌++◌, Some, None, Option, Ok, Err, refl, sym, ap, subst, arith, nat_le, if◌then◌else◌, is_some, unwrap_or, Result}
+use Rattle.std.specs.Prelude.{⊤}
+use Rattle.base_types.specs.{declared.account.Account.Account, Orders.addr_cmp}
 use Rattle.base_types.specs.declared.account.Account.TheVariants as account
 use Rattle.base_types.specs.declared.account.Module.TheVariants as holder
-use Rattle.base_types.specs.Orders.{addr_cmp}
 use Rattle.base_decimals.specs.declared.over.Over.{Over}
 use Rattle.base_coins.specs.Coins.{Money, IsMoney, amount_of}
-use Rattle.base_roles.specs.declared.entities.Purse.{Purse}
-use Rattle.base_roles.specs.declared.facts.Fact.{Fact}
+use Rattle.base_roles.specs.declared.{entities.Purse.Purse, facts.Fact.Fact, faults.HookFault.HookFault}
+use Rattle.base_roles.specs.declared.{messages.Vote.Vote, refusal.Refusal.{Refusal, TheVariants.NoCommission}}
+use Rattle.base_roles.specs.{Answers.{Answers, AsRuled, ExceedsAs, WantsMemory}, Entries.at}
+use Rattle.base_roles.specs.{Holdings.{IsBacked, balance_of, coins_of, is_short}, Hooks.Stand, Owing.Lists, Log.Log}
+use Rattle.base_roles.specs.{Staked.Staked, Flow.{◌>>=◌, ◌>>◌, or_stop, stop_if}, World.{View, noted, sent}}
+use Rattle.base_roles.proofs.{AmountLemmas.moves_by_amounts, HoldingLemmas.balance-most}
 use Rattle.base_roles.specs.declared.facts.Fact.TheVariants as fact
-use Rattle.base_roles.specs.declared.faults.HookFault.{HookFault}
-use Rattle.base_roles.specs.declared.messages.Vote.{Vote}
-use Rattle.base_roles.specs.declared.refusal.Refusal.{Refusal}
-use Rattle.base_roles.specs.declared.refusal.Refusal.TheVariants.{NoCommission}
-use Rattle.base_roles.specs.Answers.{Answers, AsRuled, ExceedsAs, WantsMemory}
-use Rattle.base_roles.specs.Entries.{at}
-use Rattle.base_roles.proofs.AmountLemmas.{moves_by_amounts}
-use Rattle.base_roles.proofs.HoldingLemmas.{balance-most}
-use Rattle.base_roles.specs.Holdings.{IsBacked, balance_of, coins_of, is_short}
-use Rattle.base_roles.specs.Hooks.{Stand}
-use Rattle.base_roles.specs.Owing.{Lists}
-use Rattle.base_roles.specs.Log.{Log}
 use Rattle.base_roles.specs.Log as log
-use Rattle.base_roles.specs.Staked.{Staked}
-use Rattle.base_roles.specs.Flow.{◌>>=◌, ◌>>◌, or_stop, stop_if}
-use Rattle.base_roles.specs.World.{View, noted, sent}
-use Rattle.rule_modules.specs.Allocation.{allocated, fees_allocated}
-use Rattle.rule_modules.specs.Amounts.{in_units, is_empty}
+use Rattle.rule_modules.specs.{Allocation.{allocated, fees_allocated}, Amounts.{in_units, is_empty}}
 use Rattle.rule_modules.specs.Distribution.{Shared, paid_to, payee_of, told_of}
 use Rattle.rule_modules.specs.Purses.{Purses, commission_due, commission_paid, with_purse}
 use Rattle.rule_modules.specs.Withdrawals.{commission_withdrawn}
-use Rattle.mod_allocation.specs.Calls.{commission_of, commission_out, purse_at}
-use Rattle.mod_allocation.specs.Owed.{AreWithin, owed_by}
+use Rattle.mod_allocation.specs.{Calls.{commission_of, commission_out, purse_at}, Owed.{AreWithin, owed_by}}
 use Rattle.mod_periods.specs.Stands.{KeepsRewards}
-use Rattle.mod_distribution.specs.Calls.{CarriesOutOrRefuses}
-use Rattle.mod_distribution.specs.Kept.{KeptShared, payee_in}
-use Rattle.mod_distribution.specs.Stands.{KeepsShared}
-use Rattle.mod_distribution.specs.Tells.{distribution_tells}
-use Rattle.mod_distribution.proofs.CarryLemmas.{message_carried}
+use Rattle.mod_distribution.specs.{Calls.CarriesOutOrRefuses, Kept.{KeptShared, payee_in}, Stands.KeepsShared}
+use Rattle.mod_distribution.{specs.Tells.distribution_tells, proofs.CarryLemmas.message_carried}
 
 -- ---- a commission
 

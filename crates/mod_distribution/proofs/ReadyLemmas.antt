@@ -1,33 +1,19 @@
 -- What is kept has what calls need, where some plain records that it stands for are ready.
-use Rattle.std.proofs.Common.{◌≡◌, ◌∙◌, ℕ, ◌+◌, ◌*◌, ◌^◌, ◌≤◌, true, false, List, Some, None, Option, refl, sym, ap, subst, arith}
-use Rattle.std.specs.Prelude.{All, is_some, option_map}
+use Rattle.std.proofs.Common.{◌≡◌, ◌∙◌, ℕ, ◌+◌, ◌*◌, ◌^◌, ◌≤◌, true, false, List, Some, None, Option, refl, sym, ap, subst, arith, All, is_some, option_map}
 use Rattle.std.proofs.lemmas.List.Elements.{All-weaker}
 use Rattle.base_types.specs.declared.account.Account.TheVariants as account
 use Rattle.base_types.specs.declared.account.Module.TheVariants as holder
 use Rattle.base_types.specs.Orders.{addr_cmp}
-use Rattle.base_roles.proofs.HoldingLemmas.{balance-most}
-use Rattle.base_roles.specs.declared.entities.SlashEvent.{SlashEvent}
-use Rattle.base_roles.specs.Entries.{at}
-use Rattle.base_roles.specs.Hooks.{Stand}
-use Rattle.base_roles.specs.Owing.{Lists}
-use Rattle.base_roles.specs.Orders.{pair_cmp}
-use Rattle.base_roles.specs.World.{View}
+use Rattle.base_roles.{proofs.HoldingLemmas.balance-most, specs.{declared.entities.SlashEvent.SlashEvent, Entries.at}}
+use Rattle.base_roles.specs.{Hooks.Stand, Owing.Lists, Orders.pair_cmp, World.View}
 use Rattle.law_soundness.proofs.Periods.{some_unwrap}
-use Rattle.rule_modules.proofs.EntryLemmas.{from_all}
-use Rattle.rule_modules.proofs.OrderLemmas.{addr_total}
-use Rattle.rule_modules.proofs.SoundLemmas.{exact_addr}
-use Rattle.rule_modules.specs.Distribution.{Shared}
-use Rattle.rule_modules.specs.Periods.{Periods, initial_records, periods_of, starts_of}
+use Rattle.rule_modules.proofs.{EntryLemmas.from_all, OrderLemmas.addr_total, SoundLemmas.exact_addr}
+use Rattle.rule_modules.specs.{Distribution.Shared, Periods.{Periods, initial_records, periods_of, starts_of}}
 use Rattle.rule_modules.specs.Sound.{PeriodsAreSound, RewardsAreSound, EventIsSound}
-use Rattle.mod_allocation.specs.Calls.{purse_at}
-use Rattle.mod_allocation.specs.Owed.{AreWithin, CanPay, nothing_more, owed_by}
-use Rattle.mod_periods.specs.Kept.{current_of, info_of, events_of}
-use Rattle.mod_periods.specs.Scenes.{HasPeriods}
-use Rattle.mod_distribution.specs.Calls.{HasRecords, HasStarted, CanBePaid}
-use Rattle.mod_distribution.specs.Heights.{sound_later}
-use Rattle.mod_distribution.specs.Kept.{KeptShared}
-use Rattle.mod_distribution.specs.Stands.{KeepsShared}
-use Rattle.mod_distribution.specs.Tells.{distribution_tells}
+use Rattle.mod_allocation.specs.{Calls.purse_at, Owed.{AreWithin, CanPay, nothing_more, owed_by}}
+use Rattle.mod_periods.specs.{Kept.{current_of, info_of, events_of}, Scenes.HasPeriods}
+use Rattle.mod_distribution.specs.{Calls.{HasRecords, HasStarted, CanBePaid}, Heights.sound_later, Kept.KeptShared}
+use Rattle.mod_distribution.specs.{Stands.KeepsShared, Tells.distribution_tells}
 
 pub some_mapped : {A B : Type 0} (f : A → B) (o : Option A) → is_some (option_map f o) ≡ is_some o
 some_mapped f None = refl

@@ -1,49 +1,25 @@
 -- After each call distribution stands for the lists.
-use Rattle.std.proofs.Common.{◌≡◌, ◌∙◌, ℕ, Bool, true, false, List, Some, Ok, Err, refl, sym, ap, subst}
-use Rattle.std.specs.Prelude.{◌&&◌, not, IfOk, OnOk, is_some, if◌then◌else◌, Result, ⊤}
-use Rattle.std.proofs.lemmas.List.Elements.{recursion_from_All}
+use Rattle.std.proofs.Common.{◌≡◌, ◌∙◌, ℕ, Bool, true, false, List, Some, Ok, Err, refl, sym, ap, subst, ◌&&◌, not, IfOk, OnOk, is_some, if◌then◌else◌, Result}
+use Rattle.std.{specs.Prelude.⊤, proofs.lemmas.List.Elements.recursion_from_All}
 use Rattle.base_decimals.specs.declared.over.Over.{Over}
-use Rattle.base_types.specs.declared.account.Account.{Account}
+use Rattle.base_types.specs.{declared.account.Account.Account, Orders.addr_cmp}
 use Rattle.base_types.specs.declared.account.Account.TheVariants as account
-use Rattle.base_types.specs.Orders.{addr_cmp}
 use Rattle.base_coins.specs.Coins.{Money}
-use Rattle.base_roles.specs.declared.entities.Validator.{Validator}
-use Rattle.base_roles.specs.declared.faults.HookFault.{HookFault}
-use Rattle.base_roles.specs.declared.messages.Vote.{Vote}
-use Rattle.base_roles.specs.declared.params.Params.{Params}
-use Rattle.base_roles.specs.declared.refusal.Refusal.{Refusal}
-use Rattle.base_roles.specs.declared.refusal.Refusal.TheVariants.{NoCommission, WithdrawFixed}
-use Rattle.base_roles.specs.Answers.{Answers}
-use Rattle.base_roles.specs.Entries.{at, with}
-use Rattle.base_roles.specs.Hooks.{Stand, with_started}
-use Rattle.base_roles.specs.Owing.{Lists}
-use Rattle.base_roles.specs.Log.{Log}
-use Rattle.base_roles.specs.Orders.{same_addr}
-use Rattle.base_roles.specs.Staked.{Staked, validator_by_cons}
-use Rattle.base_roles.specs.Flow.{◌>>◌, stop_if}
-use Rattle.base_roles.specs.World.{View}
-use Rattle.law_soundness.proofs.Allocating.{AreKnownVotes, fees_leave}
-use Rattle.law_soundness.proofs.Burns.{total_in}
-use Rattle.law_soundness.proofs.Lists.{weaker}
-use Rattle.law_soundness.proofs.Moves.{Leaves, payees_leave}
-use Rattle.law_soundness.proofs.Pool.{commission_leaves}
-use Rattle.law_soundness.proofs.Rewards.{renewal_leaves}
-use Rattle.law_soundness.proofs.Standing.{relisted}
-use Rattle.law_soundness.proofs.Steps.{from_if}
-use Rattle.rule_modules.proofs.GoingLemmas.{on_found, on_stop}
-use Rattle.rule_modules.proofs.OrderLemmas.{same_is}
-use Rattle.rule_modules.specs.Allocation.{fees_allocated}
-use Rattle.rule_modules.specs.Amounts.{is_empty}
-use Rattle.rule_modules.specs.Distribution.{Shared, payee_of, reward_renewed, told_of}
-use Rattle.rule_modules.specs.Purses.{Purses}
-use Rattle.rule_modules.specs.Withdrawals.{commission_withdrawn, payee_set}
+use Rattle.base_roles.specs.declared.{entities.Validator.Validator, faults.HookFault.HookFault, messages.Vote.Vote}
+use Rattle.base_roles.specs.declared.{params.Params.Params, refusal.Refusal.Refusal}
+use Rattle.base_roles.specs.{declared.refusal.Refusal.TheVariants.{NoCommission, WithdrawFixed}, Answers.Answers}
+use Rattle.base_roles.specs.{Entries.{at, with}, Hooks.{Stand, with_started}, Owing.Lists, Log.Log, Orders.same_addr}
+use Rattle.base_roles.specs.{Staked.{Staked, validator_by_cons}, Flow.{◌>>◌, stop_if}, World.View}
+use Rattle.law_soundness.proofs.{Allocating.{AreKnownVotes, fees_leave}, Burns.total_in, Lists.weaker}
+use Rattle.law_soundness.proofs.{Moves.{Leaves, payees_leave}, Pool.commission_leaves, Rewards.renewal_leaves}
+use Rattle.law_soundness.proofs.{Standing.relisted, Steps.from_if}
+use Rattle.rule_modules.{proofs.{GoingLemmas.{on_found, on_stop}, OrderLemmas.same_is}, specs.Allocation.fees_allocated}
+use Rattle.rule_modules.specs.{Amounts.is_empty, Distribution.{Shared, payee_of, reward_renewed, told_of}}
+use Rattle.rule_modules.specs.{Purses.Purses, Withdrawals.{commission_withdrawn, payee_set}}
 use Rattle.mod_allocation.specs.Calls.{AreVotes, IsOfVoter, purse_at}
 use Rattle.mod_distribution.specs.Calls.{CarriesOut, CarriesOutOrRefuses, SetsOrRefuses, StandFor}
-use Rattle.mod_distribution.specs.Fitting.{Any, hooks_fit, stand_from}
-use Rattle.mod_distribution.specs.Kept.{KeptShared, with_payee}
-use Rattle.mod_distribution.specs.Stands.{KeepsShared}
-use Rattle.mod_distribution.specs.Tells.{distribution_tells}
-use Rattle.mod_distribution.proofs.CarryLemmas.{carried_from}
+use Rattle.mod_distribution.specs.{Fitting.{Any, hooks_fit, stand_from}, Kept.{KeptShared, with_payee}}
+use Rattle.mod_distribution.{specs.{Stands.KeepsShared, Tells.distribution_tells}, proofs.CarryLemmas.carried_from}
 
 -- ---- a renewed reward
 

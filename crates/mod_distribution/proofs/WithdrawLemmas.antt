@@ -1,25 +1,18 @@
 -- A withdrawal in its two parts, and what is pending.
-use Rattle.std.proofs.Common.{◌≡◌, ◌∙◌, ℕ, List, [], ◌∷◌, ◌++◌, Ok, Err, refl, sym, ap, subst}
-use Rattle.std.specs.Prelude.{Result}
+use Rattle.std.proofs.Common.{◌≡◌, ◌∙◌, ℕ, List, [], ◌∷◌, ◌++◌, Ok, Err, refl, sym, ap, subst, Result}
 use Rattle.base_decimals.specs.declared.over.Over.{Over}
 use Rattle.base_coins.specs.Coins.{Money, fractions, smaller_of, whole_coins}
-use Rattle.base_roles.specs.declared.entities.Validator.{Validator}
+use Rattle.base_roles.specs.{declared.{entities.Validator.Validator, faults.HookFault.HookFault}, Answers.Answers}
+use Rattle.base_roles.specs.{Log.Log, Flow.{◌>>=◌}, World.{View, modified, noted}}
 use Rattle.base_roles.specs.declared.facts.Fact.TheVariants as fact
-use Rattle.base_roles.specs.declared.faults.HookFault.{HookFault}
-use Rattle.base_roles.specs.Answers.{Answers}
-use Rattle.base_roles.specs.Log.{Log}
 use Rattle.base_roles.specs.Log as log
-use Rattle.base_roles.specs.Flow.{◌>>=◌}
-use Rattle.base_roles.specs.World.{View, modified, noted}
 use Rattle.rule_modules.specs.Amounts.{over_facts}
 use Rattle.rule_modules.specs.Distribution.{Shared, current_taken, distribution_told, ended, started, paid_to, payee_of, pending, reward_due, reward_withdrawn, reward_renewed}
 use Rattle.rule_modules.specs.Periods.{Periods, last_ended, period_ended, periods_of, reward_after, reward_at, start_of, with_periods, without_start}
 use Rattle.rule_modules.specs.Purses.{Purses, paid_out, pooled_told, purse_of}
 use Rattle.base_shares.specs.Shares.{value_even_of}
 use Rattle.mod_periods.specs.Answers.{Gives}
-use Rattle.mod_distribution.specs.Calls.{CarriesOut, reward_paid}
-use Rattle.mod_distribution.specs.Kept.{KeptShared}
-use Rattle.mod_distribution.specs.Stands.{KeepsShared}
+use Rattle.mod_distribution.specs.{Calls.{CarriesOut, reward_paid}, Kept.KeptShared, Stands.KeepsShared}
 use Rattle.mod_distribution.proofs.CarryLemmas.{Ruled, behind_first, carried_from, carried_relogged, first_fault, given_wants, relogged, wants}
 use Rattle.mod_distribution.proofs.PeriodLemmas.{end_rest, periods_put_found}
 

@@ -1,16 +1,10 @@
 -- Answers of one step within another, of messages that change entries and delegations.
-use Rattle.std.proofs.Common.{◌≡◌, ℕ, refl, sym, ap, subst}
-use Rattle.std.specs.Prelude.{Ok, Err, Result}
+use Rattle.std.proofs.Common.{◌≡◌, ℕ, refl, sym, ap, subst, Ok, Err, Result}
 use Rattle.base_decimals.specs.declared.over.Over.{Over}
-use Rattle.base_roles.specs.declared.faults.HookFault.{HookFault}
+use Rattle.base_roles.specs.declared.{faults.HookFault.HookFault, refusal.Refusal.{Refusal, TheVariants.Overflow}}
+use Rattle.base_roles.specs.{Answers.Follows, Flow.{◌>>=◌, stopping}, Stops.stop_of_hook, World.{View, World}}
 use Rattle.base_roles.specs.declared.faults.HookFault.TheVariants as hook
 use Rattle.base_roles.specs.declared.faults.MessageFault.TheVariants as stop
-use Rattle.base_roles.specs.declared.refusal.Refusal.{Refusal}
-use Rattle.base_roles.specs.declared.refusal.Refusal.TheVariants.{Overflow}
-use Rattle.base_roles.specs.Answers.{Follows}
-use Rattle.base_roles.specs.Flow.{◌>>=◌, stopping}
-use Rattle.base_roles.specs.Stops.{stop_of_hook}
-use Rattle.base_roles.specs.World.{View, World}
 use Rattle.mod_entries.specs.Answers.{AnswersBoth}
 
 pub answers_no_memory : {A U S H : Type 0} (r : Result (A × U × World S H) Refusal) (u : U) (s : S) (holds : H → Type 0) (v : View) → AnswersBoth r u s holds v (Err stop.NoMemory)

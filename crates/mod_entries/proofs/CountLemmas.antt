@@ -1,19 +1,11 @@
 -- What a slash counts, entry by entry and key by key.
-use Rattle.std.proofs.Common.{◌≡◌, ◌∙◌, ℕ, ◌+◌, ◌^◌, ◌<◌, ◌≤◌, ◌++◌, Bool, true, false, cond, List, [], ◌∷◌, Option, Some, None, drop, get_or, add-one, drop-cons, append-nil, append_assoc, length, refl, sym, ap, subst, arith, inl, inr}
-use Rattle.std.specs.Prelude.{suc, zero, map, filter, sum, All}
-use Rattle.std.specs.declared.cmp.Ordering.{Ordering}
-use Rattle.std.specs.Cmp.{IsTotalOrder}
-use Rattle.std.specs.List.{AllByRecursion}
-use Rattle.std.specs.List.Sorted.{IsStrictlySortedBy}
-use Rattle.std.specs.Map.{keys_of}
-use Rattle.std.proofs.Math.Nat.{div-le_of_le-mul}
-use Rattle.std.proofs.lemmas.Nat.{mul-le}
-use Rattle.std.proofs.lemmas.List.Elements.{recursion_from_All}
+use Rattle.std.proofs.Common.{◌≡◌, ◌∙◌, ℕ, ◌+◌, ◌^◌, ◌<◌, ◌≤◌, ◌++◌, Bool, true, false, cond, List, [], ◌∷◌, Option, Some, None, drop, get_or, add-one, drop-cons, append-nil, append_assoc, length, refl, sym, ap, subst, arith, inl, inr, suc, zero, map, filter, sum, All, Ordering}
+use Rattle.std.specs.{Cmp.IsTotalOrder, List.{AllByRecursion, Sorted.IsStrictlySortedBy}, Map.keys_of}
+use Rattle.std.proofs.{Math.Nat.div-le_of_le-mul, lemmas.{Nat.mul-le, List.Elements.recursion_from_All}}
 use Rattle.std.proofs.lemmas.List.Sums.{sum_by-cons}
 use Rattle.base_table.specs.Tabled.{entry_above}
 use Rattle.base_roles.specs.Orders.{same_addr}
-use Rattle.base_records.proofs.MemberLemmas.{Member}
-use Rattle.base_records.proofs.WalkLemmas.{left_of, walk-end, walk-more}
+use Rattle.base_records.proofs.{MemberLemmas.Member, WalkLemmas.{left_of, walk-end, walk-more}}
 use Rattle.rule_modules.specs.EntrySlashes.{Made, is_hit, part_of, counted, counted_of}
 use Rattle.mod_entries.specs.Slashed.{all_counted}
 

@@ -1,35 +1,22 @@
 -- The keys with a mature entry: from the queue, sorted, they are those of the lists.
-use Rattle.std.proofs.Common.{◌≡◌, ◌∙◌, ℕ, ◌+◌, ◌<◌, ◌≤◌, ◌++◌, length, append_assoc, append-nil, Bool, true, false, cond, List, [], ◌∷◌, Option, Some, None, refl, sym, ap, arith, inl, inr}
-use Rattle.std.specs.Prelude.{◌||◌, nat_lt, nat_le, map, filter, unwrap_or}
-use Rattle.std.proofs.lemmas.Bool.Decides.{nat_tests}
-use Rattle.std.specs.declared.cmp.Ordering.{Ordering}
-use Rattle.std.specs.declared.cmp.Ordering.TheVariants.{Less, Equal, Greater}
-use Rattle.std.specs.Ordering.{is_eq, nat_cmp, eq_by_cmp, ordering_then}
-use Rattle.std.specs.Cmp.{IsTotalOrder, nat_cmp_is, eq_by_cmp_equiv}
-use Rattle.std.specs.BTreeMap.{is_at}
-use Rattle.std.specs.List.{AllByRecursion, IsDistinct, list_any}
-use Rattle.std.specs.List.Sorted.{IsStrictlySortedBy, IsSorted, IsPermutation}
+use Rattle.std.proofs.Common.{◌≡◌, ◌∙◌, ℕ, ◌+◌, ◌<◌, ◌≤◌, ◌++◌, length, append_assoc, append-nil, Bool, true, false, cond, List, [], ◌∷◌, Option, Some, None, refl, sym, ap, arith, inl, inr, ◌||◌, nat_lt, nat_le, map, filter, unwrap_or, Ordering, Less, Equal, Greater, is_eq, nat_cmp, IsSorted, IsPermutation}
+use Rattle.std.proofs.lemmas.{Bool.Decides.nat_tests, List.Sorted.{IsPermutation-sym, Contains-permutation}}
+use Rattle.std.proofs.lemmas.{List.Sums.sum_by-cons, Map.Keys.{IsDistinct-from_sorted, IsDistinct-IsPermutation}}
+use Rattle.std.proofs.lemmas.Map.{Made.length-le_from_is_member, Views.{Contains-from_lookup, lookup-from_Contains}}
+use Rattle.std.specs.{Ordering.{eq_by_cmp, ordering_then}, Cmp.{IsTotalOrder, nat_cmp_is, eq_by_cmp_equiv}}
+use Rattle.std.specs.{BTreeMap.is_at, List.{AllByRecursion, IsDistinct, list_any, Sorted.IsStrictlySortedBy}}
 use Rattle.std.specs.Map.{keys_of, values_of}
-use Rattle.std.proofs.lemmas.List.Sorted.{IsPermutation-sym, Contains-permutation}
-use Rattle.std.proofs.lemmas.List.Sums.{sum_by-cons}
-use Rattle.std.proofs.lemmas.Map.Keys.{IsDistinct-from_sorted, IsDistinct-IsPermutation}
-use Rattle.std.proofs.lemmas.Map.Made.{length-le_from_is_member}
-use Rattle.std.proofs.lemmas.Map.Views.{Contains-from_lookup, lookup-from_Contains}
-use Rattle.base_types.specs.Orders.{moment_cmp}
-use Rattle.base_types.proofs.MapLemmas.{equal}
+use Rattle.base_types.{specs.Orders.moment_cmp, proofs.MapLemmas.equal}
 use Rattle.base_roles.specs.Entries.{at}
 use Rattle.base_records.proofs.AscendLemmas.{not_below, once-ascends, same_members}
 use Rattle.base_records.proofs.MemberLemmas.{Member, member, contained, all_member}
 use Rattle.base_records.proofs.WalkLemmas.{left_of, walk-end, walk-more}
 use Rattle.base_table.specs.Tabled.{entry_above}
-use Rattle.rule_modules.specs.Amounts.{count_where}
-use Rattle.rule_modules.specs.EntrySlashes.{Made}
+use Rattle.rule_modules.specs.{Amounts.count_where, EntrySlashes.Made}
 use Rattle.mod_entries.specs.Lists.{list_at, is_mature, some_mature, IsExact}
 use Rattle.mod_entries.specs.Queue.{Completions, completion_cmp, sooner, earliest, earliest_from, IsQueue, due_in}
-use Rattle.mod_entries.specs.Walked.{keys_where, is_due, mature_entries}
-use Rattle.mod_entries.specs.Ways.{standing}
-use Rattle.mod_entries.proofs.WayLemmas.{completion_total}
-use Rattle.mod_entries.proofs.WalkedLemmas.{above-where}
+use Rattle.mod_entries.specs.{Walked.{keys_where, is_due, mature_entries}, Ways.standing}
+use Rattle.mod_entries.proofs.{WayLemmas.completion_total, WalkedLemmas.above-where}
 
 -- ---- the keys whose entries pass a test
 

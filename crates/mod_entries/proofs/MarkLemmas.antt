@@ -1,20 +1,13 @@
 -- Tables that are marked together.
-use Rattle.std.proofs.Common.{◌≡◌, ◌≢◌, ◌∙◌, ℕ, ◌+◌, ◌<◌, Bool, List, [], ◌∷◌, ◌++◌, length, refl, sym, ap, subst}
-use Rattle.std.specs.declared.cmp.Ordering.{Ordering}
-use Rattle.std.specs.BTreeMap.{is_at}
-use Rattle.std.specs.List.{AllByRecursion}
-use Rattle.std.proofs.lemmas.List.{length_push, same_from_push}
-use Rattle.std.proofs.lemmas.List.Elements.{All-from_recursion}
-use Rattle.std.proofs.lemmas.Map.Views.{All-keys-insert_entry, All-map-remove_entry}
+use Rattle.std.proofs.Common.{◌≡◌, ◌≢◌, ◌∙◌, ℕ, ◌+◌, ◌<◌, Bool, List, [], ◌∷◌, ◌++◌, length, refl, sym, ap, subst, Ordering}
+use Rattle.std.{specs.{BTreeMap.is_at, List.AllByRecursion}, proofs.lemmas.List.{length_push, same_from_push}}
+use Rattle.std.proofs.lemmas.{List.Elements.All-from_recursion, Map.Views.{All-keys-insert_entry, All-map-remove_entry}}
 use Rattle.base_table.specs.Tabled.{Tabled, with_value, without_key}
 use Rattle.base_table.specs.Tabled as table
 use Rattle.base_records.specs.Marks.{AtEachMark}
 use Rattle.base_records.proofs.MarkLemmas.{some_marks, popped_length, all-push, all-pop, each_mark-push, each_mark-pop}
 use Rattle.rule_modules.specs.EntrySlashes.{Made}
-use Rattle.mod_entries.specs.Lists.{AllKeys}
-use Rattle.mod_entries.specs.Queue.{IsQueue}
-use Rattle.mod_entries.specs.Sources.{AreSourced}
-use Rattle.mod_entries.specs.Together.{HaveSameMarks, Stays}
+use Rattle.mod_entries.specs.{Lists.AllKeys, Queue.IsQueue, Sources.AreSourced, Together.{HaveSameMarks, Stays}}
 use Rattle.mod_entries.specs.Ways.{InStep, Way}
 
 -- ---- a table and a way to its keys

@@ -1,17 +1,9 @@
 -- Entries whose keys begin with an address stand side by side by it: a walk from one of them on ends before another's.
-use Rattle.std.proofs.Common.{◌≡◌, ◌∙◌, ℕ, Bool, true, false, cond, List, [], ◌∷◌, Option, Some, None, refl, sym, ap, subst}
-use Rattle.std.specs.Prelude.{◌&&◌, filter}
-use Rattle.std.specs.declared.cmp.Ordering.{Ordering}
-use Rattle.std.specs.declared.cmp.Ordering.TheVariants.{Less, Equal, Greater}
-use Rattle.std.specs.Ordering.{is_eq, ordering_then, ordering_reverse}
-use Rattle.std.specs.Cmp.{eq_by_cmp_equiv}
-use Rattle.std.specs.BTreeMap.{is_at}
-use Rattle.std.specs.List.{AllByRecursion}
-use Rattle.std.specs.List.Sorted.{IsStrictlySortedBy}
-use Rattle.std.specs.Map.{keys_of}
+use Rattle.std.proofs.Common.{◌≡◌, ◌∙◌, ℕ, Bool, true, false, cond, List, [], ◌∷◌, Option, Some, None, refl, sym, ap, subst, ◌&&◌, filter, Ordering, Less, Equal, Greater, is_eq}
+use Rattle.std.specs.{Ordering.{ordering_then, ordering_reverse}, Cmp.eq_by_cmp_equiv, BTreeMap.is_at}
+use Rattle.std.specs.{List.{AllByRecursion, Sorted.IsStrictlySortedBy}, Map.keys_of}
 use Rattle.std.proofs.lemmas.Map.Lookups.{exact_bytes}
-use Rattle.base_types.specs.Orders.{addr_cmp}
-use Rattle.base_types.proofs.MapLemmas.{equal}
+use Rattle.base_types.{specs.Orders.addr_cmp, proofs.MapLemmas.equal}
 use Rattle.base_table.specs.Tabled.{first_of}
 use Rattle.base_roles.specs.Orders.{same_addr}
 use Rattle.rule_modules.proofs.OrderLemmas.{addr_total}

@@ -1,34 +1,19 @@
 -- The keys that stand under a source are those of the entries from the operator, in the same order, and side by side.
-use Rattle.std.proofs.Common.{◌≡◌, ◌∙◌, ℕ, Bool, true, false, cond, List, [], ◌∷◌, Option, Some, None, refl, sym, ap, inl, inr}
-use Rattle.std.specs.Prelude.{◌&&◌, All, filter, option_map}
-use Rattle.std.specs.declared.cmp.Ordering.{Ordering}
-use Rattle.std.specs.declared.cmp.Ordering.TheVariants.{Less, Equal, Greater}
-use Rattle.std.specs.Ordering.{is_eq, is_le, is_lt, ordering_then}
-use Rattle.std.specs.Cmp.{IsTotalOrder, tied_itself}
-use Rattle.std.specs.BTreeMap.{is_at}
-use Rattle.std.specs.List.{AllByRecursion}
-use Rattle.std.specs.List.Sorted.{IsStrictlySortedBy}
-use Rattle.std.specs.Map.{keys_of}
-use Rattle.std.proofs.lemmas.List.Elements.{recursion_from_All}
-use Rattle.std.proofs.lemmas.Map.Keys.{IsDistinct-from_sorted}
-use Rattle.std.proofs.lemmas.Map.Lookups.{exact_bytes}
-use Rattle.base_types.specs.Orders.{addr_cmp}
-use Rattle.base_types.proofs.MapLemmas.{equal}
+use Rattle.std.proofs.Common.{◌≡◌, ◌∙◌, ℕ, Bool, true, false, cond, List, [], ◌∷◌, Option, Some, None, refl, sym, ap, inl, inr, ◌&&◌, All, filter, option_map, Ordering, Less, Equal, Greater, is_eq, is_le, is_lt}
+use Rattle.std.specs.{Ordering.ordering_then, Cmp.{IsTotalOrder, tied_itself}, BTreeMap.is_at, List.AllByRecursion}
+use Rattle.std.{specs.{List.Sorted.IsStrictlySortedBy, Map.keys_of}, proofs.lemmas.List.Elements.recursion_from_All}
+use Rattle.std.proofs.lemmas.Map.{Keys.IsDistinct-from_sorted, Lookups.exact_bytes}
+use Rattle.base_types.{specs.Orders.addr_cmp, proofs.MapLemmas.equal}
 use Rattle.base_table.specs.Tabled.{first_of, entry_above, entry_from}
-use Rattle.base_roles.specs.Entries.{at}
-use Rattle.base_roles.specs.Orders.{both_cmp, same_addr}
-use Rattle.base_records.proofs.AscendLemmas.{same_members}
-use Rattle.base_records.proofs.MemberLemmas.{Member, entry_of, value_of}
+use Rattle.base_roles.specs.{Entries.at, Orders.{both_cmp, same_addr}}
+use Rattle.base_records.proofs.{AscendLemmas.same_members, MemberLemmas.{Member, entry_of, value_of}}
 use Rattle.rule_modules.proofs.OrderLemmas.{addr_total}
-use Rattle.mod_entries.specs.Lists.{list_at, AllKeys, IsExact}
-use Rattle.mod_entries.specs.Slashed.{is_from}
+use Rattle.mod_entries.specs.{Lists.{list_at, AllKeys, IsExact}, Slashed.is_from}
 use Rattle.mod_entries.specs.Sources.{from_operator, own_key, source_of, AreSourced, IsLeast, Sources}
-use Rattle.mod_entries.specs.Walked.{keys_where}
-use Rattle.mod_entries.specs.Ways.{standing}
+use Rattle.mod_entries.specs.{Walked.keys_where, Ways.standing}
 use Rattle.mod_entries.proofs.CountLemmas.{all-passes, filter_member, filter_passes, next-member, of_member}
 use Rattle.mod_entries.proofs.DueLemmas.{ascend-where, found_list, has_where, member_list, where_has}
-use Rattle.mod_entries.proofs.SideLemmas.{if_of_addr, same_equal, same_turned, side-first}
-use Rattle.mod_entries.proofs.WayLemmas.{source_total}
+use Rattle.mod_entries.proofs.{SideLemmas.{if_of_addr, same_equal, same_turned, side-first}, WayLemmas.source_total}
 
 -- what stands under the operator
 abbrev pub under : {K : Type 0} → List ℕ → Sources K → Sources K

@@ -1,7 +1,6 @@
 -- What one call and another leave can be taken back together.
 use Rattle.std.proofs.Common.{◌∙◌, [], ◌++◌, append-nil, append_assoc, refl, sym, ap}
-use Rattle.base_roles.specs.declared.bank.Ground.{Ground}
-use Rattle.base_roles.specs.Ground.{CanBeUndone}
+use Rattle.base_roles.specs.{declared.bank.Ground.Ground, Ground.CanBeUndone}
 
 module _ {B M : Type 0} (marks_of : B → M) where
   pub undone-none : (g : Ground B) → CanBeUndone marks_of g g

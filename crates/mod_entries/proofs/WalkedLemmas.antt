@@ -1,19 +1,11 @@
 -- Changing the entries of some keys is changing those of all, where the others stay.
-use Rattle.std.proofs.Common.{◌≡◌, ◌∙◌, ◌<◌, Bool, true, false, cond, List, [], ◌∷◌, Some, refl, sym, ap, arith}
-use Rattle.std.specs.Prelude.{length, unwrap_or, map, filter}
-use Rattle.std.specs.declared.cmp.Ordering.{Ordering}
-use Rattle.std.specs.declared.cmp.Ordering.TheVariants.{Less, Equal}
-use Rattle.std.specs.Ordering.{is_eq, match_ordering}
-use Rattle.std.specs.Cmp.{IsTotalOrder, tied_itself}
-use Rattle.std.specs.BTreeMap.{insert_entry}
-use Rattle.std.specs.List.{AllByRecursion}
-use Rattle.std.specs.List.Sorted.{IsStrictlySortedBy}
-use Rattle.std.specs.Map.{keys_of}
+use Rattle.std.proofs.Common.{◌≡◌, ◌∙◌, ◌<◌, Bool, true, false, cond, List, [], ◌∷◌, Some, refl, sym, ap, arith, length, unwrap_or, map, filter, Ordering, Less, Equal, is_eq}
+use Rattle.std.specs.{Ordering.match_ordering, Cmp.{IsTotalOrder, tied_itself}, BTreeMap.insert_entry}
+use Rattle.std.specs.{List.{AllByRecursion, Sorted.IsStrictlySortedBy}, Map.keys_of}
 use Rattle.base_roles.specs.Entries.{at, without}
 use Rattle.base_records.proofs.AscendLemmas.{Above, greater}
 use Rattle.rule_modules.specs.Unbondings.{key_then}
-use Rattle.mod_entries.specs.Lists.{list_at, with_list}
-use Rattle.mod_entries.specs.Walked.{Change, walked, stepped, keys_where}
+use Rattle.mod_entries.specs.{Lists.{list_at, with_list}, Walked.{Change, walked, stepped, keys_where}}
 
 abbrev pub front : {K E V : Type 0} → K × List E → List (K × List E) × V → List (K × List E) × V
 front p r = (p ∷ r.0, r.1)

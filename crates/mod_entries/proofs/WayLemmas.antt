@@ -1,20 +1,11 @@
 -- The ways to entries, as keys join, change and leave.
-use Rattle.std.proofs.Common.{◌≡◌, ◌∙◌, ℕ, Bool, true, false, cond, List, Option, Some, None, refl, sym, ap, subst}
-use Rattle.std.specs.Prelude.{◌&&◌, is_some, if◌then◌else◌}
-use Rattle.std.specs.Cmp.{IsTotalOrder, tied_then, on_total, then_total}
-use Rattle.std.specs.declared.cmp.Ordering.{Ordering}
-use Rattle.std.specs.List.Sorted.{IsStrictlySortedBy}
-use Rattle.std.specs.Map.{keys_of}
-use Rattle.std.specs.BTreeMap.{is_at}
-use Rattle.std.proofs.lemmas.Cmp.{nat_cmp_total}
-use Rattle.base_types.specs.Orders.{addr_cmp, moment_cmp}
-use Rattle.base_types.proofs.MapLemmas.{at-put, at-taken, equal}
-use Rattle.base_roles.specs.Entries.{at}
-use Rattle.base_roles.specs.Orders.{both_cmp}
-use Rattle.rule_modules.proofs.OrderLemmas.{addr_total}
-use Rattle.rule_modules.specs.EntrySlashes.{Made}
-use Rattle.mod_entries.specs.Lists.{IsExact}
-use Rattle.mod_entries.specs.Queue.{completion_of, Completions, IsQueue}
+use Rattle.std.proofs.Common.{◌≡◌, ◌∙◌, ℕ, Bool, true, false, cond, List, Option, Some, None, refl, sym, ap, subst, ◌&&◌, is_some, if◌then◌else◌, Ordering}
+use Rattle.std.specs.{Cmp.{IsTotalOrder, tied_then, on_total, then_total}, List.Sorted.IsStrictlySortedBy, Map.keys_of}
+use Rattle.std.{specs.BTreeMap.is_at, proofs.lemmas.Cmp.nat_cmp_total}
+use Rattle.base_types.{specs.Orders.{addr_cmp, moment_cmp}, proofs.MapLemmas.{at-put, at-taken, equal}}
+use Rattle.base_roles.specs.{Entries.at, Orders.both_cmp}
+use Rattle.rule_modules.{proofs.OrderLemmas.addr_total, specs.EntrySlashes.Made}
+use Rattle.mod_entries.specs.{Lists.IsExact, Queue.{completion_of, Completions, IsQueue}}
 use Rattle.mod_entries.specs.Sources.{source_of, AreSourced, Sources}
 use Rattle.mod_entries.specs.Ways.{is_there, queued, standing, unqueued, IsWay, Way}
 

@@ -1,26 +1,18 @@
 -- What each call that changes references leaves, from what it makes of the kept records.
-use Rattle.std.specs.Prelude.{◌≡◌, ◌≢◌, ℕ, ◌+◌, ◌-◌, ◌^◌, ◌<◌, ◌≤◌, ◌==◌, Bool, true, false, cond, if◌then◌else◌, List, [], ◌∷◌, ◌++◌, length, filter, All, Option, Some, None, is_some, option_map, unwrap_or, refl}
-use Rattle.std.specs.List.Sorted.{IsStrictlySortedBy}
-use Rattle.std.specs.Map.{keys_of}
-use Rattle.std.proofs.Common.{sym, ◌∙◌, ap, subst, arith}
-use Rattle.std.proofs.lemmas.List.{length-map}
+use Rattle.std.proofs.Common.{◌≡◌, ◌≢◌, ℕ, ◌+◌, ◌-◌, ◌^◌, ◌<◌, ◌≤◌, ◌==◌, Bool, true, false, cond, if◌then◌else◌, List, [], ◌∷◌, ◌++◌, length, filter, All, Option, Some, None, is_some, option_map, unwrap_or, refl, sym, ◌∙◌, ap, subst, arith}
+use Rattle.std.{specs.{List.Sorted.IsStrictlySortedBy, Map.keys_of}, proofs.lemmas.List.length-map}
 use Rattle.base_types.specs.Orders.{addr_cmp}
 use Rattle.base_coins.specs.Coins.{Money}
-use Rattle.base_roles.specs.declared.entities.Historical.{Historical}
-use Rattle.base_roles.specs.declared.entities.StartingInfo.{StartingInfo}
-use Rattle.base_roles.specs.declared.entities.SlashEvent.{SlashEvent}
-use Rattle.base_roles.specs.Entries.{at}
-use Rattle.base_roles.specs.Orders.{pair_cmp, same_addr}
+use Rattle.base_roles.specs.declared.entities.{Historical.Historical, StartingInfo.StartingInfo, SlashEvent.SlashEvent}
+use Rattle.base_roles.specs.{Entries.at, Orders.{pair_cmp, same_addr}}
 use Rattle.rule_modules.specs.Amounts.{count_where}
 use Rattle.rule_modules.specs.Periods.{Periods, Rewards, periods_of, start_of, starts_of, with_periods, with_start, without_start, ratio_at, last_ended, event_recorded, references_of}
 use Rattle.mod_periods.specs.Kept.{Kept, period_cmp, event_cmp, current_of, record_of, info_of, event_at, events_of}
 use Rattle.mod_periods.specs.Stands.{KeepsRewards, IsKept, history_of, started_at, references_in, references_at, if_some}
-use Rattle.mod_periods.specs.Steps.{running, started_kept, slashed_kept, stopped_kept}
-use Rattle.mod_periods.proofs.RecordLemmas.{counted}
+use Rattle.mod_periods.{specs.Steps.{running, started_kept, slashed_kept, stopped_kept}, proofs.RecordLemmas.counted}
 use Rattle.mod_periods.proofs.TallyLemmas.{count-most, filter-most}
 use Rattle.mod_periods.proofs.FoundLemmas.{periods-there, periods-is, running-is, record-is}
-use Rattle.mod_periods.proofs.StartLemmas.{start-stands, stop-stands}
-use Rattle.mod_periods.proofs.SlashLemmas.{slash-stands}
+use Rattle.mod_periods.proofs.{StartLemmas.{start-stands, stop-stands}, SlashLemmas.slash-stands}
 
 starts-few : (r : Rewards) (o : List ℕ) → length (starts_of r o) ≤ length r.starts
 starts-few r o = omega (arith, length-map (filter (λ (e : (List ℕ × List ℕ) × StartingInfo). same_addr e.0.0 o) r.starts) (λ (e : (List ℕ × List ℕ) × StartingInfo). e.1), filter-most (λ (e : (List ℕ × List ℕ) × StartingInfo). same_addr e.0.0 o) r.starts)

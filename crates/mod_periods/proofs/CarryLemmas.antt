@@ -1,16 +1,11 @@
 -- How the relation of kept and plain records is carried over a change at one operator.
-use Rattle.std.specs.Prelude.{◌≡◌, ℕ, Bool, true, false, cond, List, Some, is_some, option_map, unwrap_or, refl}
-use Rattle.std.specs.List.Sorted.{IsStrictlySortedBy}
-use Rattle.std.specs.Map.{keys_of}
-use Rattle.std.proofs.Common.{sym, ◌∙◌, ap, subst}
-use Rattle.base_types.specs.Orders.{addr_cmp}
-use Rattle.base_roles.specs.Entries.{at}
-use Rattle.base_roles.specs.Orders.{pair_cmp, same_addr}
-use Rattle.base_types.proofs.MapLemmas.{ascend-put, at-put}
+use Rattle.std.proofs.Common.{◌≡◌, ℕ, Bool, true, false, cond, List, Some, is_some, option_map, unwrap_or, refl, sym, ◌∙◌, ap, subst}
+use Rattle.std.specs.{List.Sorted.IsStrictlySortedBy, Map.keys_of}
+use Rattle.base_types.{specs.Orders.addr_cmp, proofs.MapLemmas.{ascend-put, at-put}}
+use Rattle.base_roles.specs.{Entries.at, Orders.{pair_cmp, same_addr}}
 use Rattle.rule_modules.specs.Periods.{Periods, Rewards, initial_records, periods_of, start_of, starts_of, with_periods, ratio_at, references_of}
 use Rattle.mod_periods.specs.Kept.{Kept, current_of, record_of, events_of}
-use Rattle.mod_periods.specs.Stands.{AreSound, IsSound, KeepsRewards, history_of}
-use Rattle.mod_periods.proofs.RecordLemmas.{counted}
+use Rattle.mod_periods.{specs.Stands.{AreSound, IsSound, KeepsRewards, history_of}, proofs.RecordLemmas.counted}
 use Rattle.mod_periods.proofs.OrderLemmas.{addr_total, same_is, same_itself}
 
 -- the periods of an operator once some stand at one

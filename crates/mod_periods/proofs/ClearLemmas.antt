@@ -1,22 +1,11 @@
 -- Taking out the entries of an operator, one by one.
-use Rattle.std.specs.Prelude.{◌≡◌, ℕ, suc, ◌&&◌, not, Bool, true, false, cond, if◌then◌else◌, List, [], ◌∷◌, length, filter, Option, Some, is_some, unwrap_or, refl}
-use Rattle.std.specs.declared.cmp.Ordering.{Ordering}
-use Rattle.std.specs.declared.cmp.Ordering.TheVariants.{Less, Equal, Greater}
-use Rattle.std.specs.declared.ops.Bound.TheVariants.{Included, Unbounded}
-use Rattle.std.specs.BTreeMap.{is_at}
-use Rattle.std.specs.BTreeMap.Range.{range_contains}
-use Rattle.std.specs.Cmp.{IsTotalOrder, tied_itself}
-use Rattle.std.specs.List.{AllByRecursion}
-use Rattle.std.specs.List.Sorted.{IsStrictlySortedBy}
-use Rattle.std.specs.Map.{keys_of, remove_entry}
-use Rattle.std.specs.Ordering.{is_eq, is_gt, is_le}
-use Rattle.std.proofs.Common.{sym, ◌∙◌, ap, subst}
-use Rattle.std.proofs.lemmas.Map.Keys.{sorted_head, sorted_tail}
+use Rattle.std.proofs.Common.{◌≡◌, ℕ, suc, ◌&&◌, not, Bool, true, false, cond, if◌then◌else◌, List, [], ◌∷◌, length, filter, Option, Some, is_some, unwrap_or, refl, Ordering, Less, Equal, Greater, is_eq, is_gt, is_le, sym, ◌∙◌, ap, subst}
+use Rattle.std.specs.{declared.ops.Bound.TheVariants.{Included, Unbounded}, BTreeMap.{is_at, Range.range_contains}}
+use Rattle.std.specs.{Cmp.{IsTotalOrder, tied_itself}, List.{AllByRecursion, Sorted.IsStrictlySortedBy}}
+use Rattle.std.{specs.Map.{keys_of, remove_entry}, proofs.lemmas.Map.Keys.{sorted_head, sorted_tail}}
 use Rattle.base_roles.specs.Orders.{same_addr}
 use Rattle.base_table.specs.Tabled.{first_of, entry_from, value_at}
-use Rattle.mod_periods.specs.Grouped.{IsGrouped}
-use Rattle.mod_periods.specs.Kept.{others}
-use Rattle.mod_periods.proofs.TallyLemmas.{passing-removed}
+use Rattle.mod_periods.{specs.{Grouped.IsGrouped, Kept.others}, proofs.TallyLemmas.passing-removed}
 
 differ : (b : Bool) → (b ≡ true → ⊥) → b ≡ false
 differ true h = absurd (h refl)

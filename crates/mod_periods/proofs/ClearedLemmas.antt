@@ -1,18 +1,12 @@
 -- The records without an operator's stand for plain ones without its periods.
-use Rattle.std.specs.Prelude.{◌≡◌, ℕ, ◌==◌, ◌&&◌, Bool, true, false, cond, if◌then◌else◌, List, [], ◌∷◌, filter, map, Option, Some, None, is_some, option_map, unwrap_or, refl}
-use Rattle.std.specs.BTreeMap.{is_at}
-use Rattle.std.specs.List.Sorted.{IsStrictlySortedBy}
-use Rattle.std.specs.Map.{keys_of, lookup}
-use Rattle.std.proofs.Common.{sym, ◌∙◌, ap}
-use Rattle.base_types.specs.Orders.{addr_cmp}
-use Rattle.base_roles.specs.Entries.{at}
-use Rattle.base_roles.specs.Orders.{pair_cmp, same_addr}
-use Rattle.base_types.proofs.MapLemmas.{ascend-taken, at-taken}
+use Rattle.std.proofs.Common.{◌≡◌, ℕ, ◌==◌, ◌&&◌, Bool, true, false, cond, if◌then◌else◌, List, [], ◌∷◌, filter, map, Option, Some, None, is_some, option_map, unwrap_or, refl, sym, ◌∙◌, ap}
+use Rattle.std.specs.{BTreeMap.is_at, List.Sorted.IsStrictlySortedBy, Map.{keys_of, lookup}}
+use Rattle.base_types.{specs.Orders.addr_cmp, proofs.MapLemmas.{ascend-taken, at-taken}}
+use Rattle.base_roles.specs.{Entries.at, Orders.{pair_cmp, same_addr}}
 use Rattle.rule_modules.specs.Periods.{Periods, Rewards, initial_records, periods_of, start_of, starts_of, without_periods}
 use Rattle.mod_periods.specs.Kept.{Kept, period_cmp, current_of, record_of, info_of, event_at, events_of, others, without_operator}
 use Rattle.mod_periods.specs.Stands.{AreSound, KeepsRewards, history_of}
-use Rattle.mod_periods.proofs.OrderLemmas.{addr_total, same_is, same_itself, period_found}
-use Rattle.mod_periods.proofs.CarryLemmas.{each-operator}
+use Rattle.mod_periods.proofs.{OrderLemmas.{addr_total, same_is, same_itself, period_found}, CarryLemmas.each-operator}
 
 module _ {K X : Type 0} (operator_of : K → List ℕ) (o : List ℕ) where
   -- a look-up of another operator's key finds what it found

@@ -1,15 +1,10 @@
 -- The records of an operator once the count of one was changed, in the words of references.
-use Rattle.std.specs.Prelude.{◌≡◌, ℕ, ◌==◌, Bool, true, false, cond, List, Some, refl}
-use Rattle.std.specs.BTreeMap.{is_at}
-use Rattle.std.proofs.Common.{sym, ◌∙◌, ap, arith}
-use Rattle.std.proofs.lemmas.Bool.Decides.{nat_tests}
+use Rattle.std.proofs.Common.{◌≡◌, ℕ, ◌==◌, Bool, true, false, cond, List, Some, refl, sym, ◌∙◌, ap, arith}
+use Rattle.std.{specs.BTreeMap.is_at, proofs.lemmas.Bool.Decides.nat_tests}
 use Rattle.base_types.specs.Orders.{addr_cmp}
-use Rattle.base_roles.specs.Entries.{at}
-use Rattle.base_roles.specs.Orders.{same_addr}
+use Rattle.base_roles.specs.{Entries.at, Orders.same_addr}
 use Rattle.rule_modules.specs.Periods.{Periods, Rewards, starts_of, ratio_at, references_of}
-use Rattle.mod_periods.specs.Kept.{Kept, period_cmp, record_of}
-use Rattle.mod_periods.specs.Stands.{KeepsRewards}
-use Rattle.mod_periods.proofs.RecordLemmas.{counted}
+use Rattle.mod_periods.{specs.{Kept.{Kept, period_cmp, record_of}, Stands.KeepsRewards}, proofs.RecordLemmas.counted}
 use Rattle.mod_periods.proofs.FoundLemmas.{found-own, found-other, record-is}
 
 module _ (k : Kept) (r : Rewards) (o : List ℕ) (p : Periods) (h : KeepsRewards k r) (e : at addr_cmp r.periods o ≡ Some p) where

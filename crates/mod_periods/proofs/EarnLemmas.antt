@@ -1,26 +1,17 @@
 -- What is earned, stretch by stretch.
-use Rattle.std.specs.Prelude.{◌≡◌, ℕ, suc, ◌+◌, ◌^◌, ◌<◌, ◌≤◌, ◌==◌, ◌&&◌, min, Bool, true, false, cond, nat_le, nat_lt, if◌then◌else◌, List, [], ◌∷◌, All, AllPairs, length, filter, drop, Option, Some, None, is_some, Result, Ok, Err, refl}
-use Rattle.std.proofs.Common.{sym, ◌∙◌, ap, subst, arith, get_or, drop-cons, add-one, zero, Bor}
-use Rattle.std.specs.Prelude.{IsSome, IfErr}
-use Rattle.std.specs.Option.{option_copied}
-use Rattle.std.proofs.lemmas.Bool.Decides.{nat_tests}
-use Rattle.std.proofs.lemmas.List.Elements.{All-nil, All-cons, All-head, All-tail, All-filter}
+use Rattle.std.proofs.Common.{◌≡◌, ℕ, suc, ◌+◌, ◌^◌, ◌<◌, ◌≤◌, ◌==◌, ◌&&◌, min, Bool, true, false, cond, nat_le, nat_lt, if◌then◌else◌, List, [], ◌∷◌, All, AllPairs, length, filter, drop, Option, Some, None, is_some, Result, Ok, Err, refl, sym, ◌∙◌, ap, subst, arith, get_or, drop-cons, add-one, zero, Bor, IsSome, IfErr, option_copied}
+use Rattle.std.proofs.lemmas.{Bool.Decides.nat_tests, List.Elements.{All-nil, All-cons, All-head, All-tail, All-filter}}
 use Rattle.std.proofs.lemmas.List.Kept.{AllPairs-filter}
 use Rattle.base_decimals.specs.declared.over.Over.{Over}
 use Rattle.base_coins.specs.Coins.{Money, coins_added, coins_taken, coins_mul_cut, first_short}
-use Rattle.base_coins.proofs.Order.{rises_from_money}
-use Rattle.base_coins.proofs.Shorts.{short_by_amounts}
-use Rattle.base_roles.specs.declared.entities.Historical.{Historical}
-use Rattle.base_roles.specs.declared.entities.StartingInfo.{StartingInfo}
-use Rattle.base_roles.specs.declared.entities.SlashEvent.{SlashEvent}
-use Rattle.base_roles.specs.Flow.{◌>>=◌}
-use Rattle.base_roles.specs.declared.faults.HookFault.{HookFault}
+use Rattle.base_coins.proofs.{Order.rises_from_money, Shorts.short_by_amounts}
+use Rattle.base_roles.specs.declared.entities.{Historical.Historical, StartingInfo.StartingInfo, SlashEvent.SlashEvent}
+use Rattle.base_roles.specs.{Flow.{◌>>=◌}, declared.faults.HookFault.HookFault}
 use Rattle.base_roles.specs.declared.faults.HookFault.TheVariants as hook
 use Rattle.mod_sums.specs.Faults.{IsExcessOf}
 use Rattle.mod_periods.specs.Earning.{events_since, ratios_with, kept_reward, stretch_added, CanEarn}
-use Rattle.mod_periods.specs.Kept.{Kept, record_of, events_of}
+use Rattle.mod_periods.specs.{Kept.{Kept, record_of, events_of}, Steps.{ratio_in, ratio_of}}
 use Rattle.rule_modules.specs.Periods.{Stretch, slashed_stake, stretches, falls_after, earned}
-use Rattle.mod_periods.specs.Steps.{ratio_in, ratio_of}
 
 -- the events of later periods than the start's
 abbrev pub later : StartingInfo → List SlashEvent → List SlashEvent

@@ -1,21 +1,13 @@
 -- The end of a period carries the relation.
-use Rattle.std.specs.Prelude.{◌≡◌, ◌≢◌, ℕ, ◌+◌, ◌-◌, ◌^◌, ◌<◌, ◌≤◌, ◌==◌, Bool, true, false, cond, nat_le, if◌then◌else◌, List, ◌∷◌, Some, unwrap_or, refl}
-use Rattle.std.specs.BTreeMap.{is_at}
-use Rattle.std.specs.List.Sorted.{IsStrictlySortedBy}
-use Rattle.std.specs.Map.{keys_of}
-use Rattle.std.proofs.Common.{sym, ◌∙◌, ap, subst, arith}
+use Rattle.std.proofs.Common.{◌≡◌, ◌≢◌, ℕ, ◌+◌, ◌-◌, ◌^◌, ◌<◌, ◌≤◌, ◌==◌, Bool, true, false, cond, nat_le, if◌then◌else◌, List, ◌∷◌, Some, unwrap_or, refl, sym, ◌∙◌, ap, subst, arith}
+use Rattle.std.specs.{BTreeMap.is_at, List.Sorted.IsStrictlySortedBy, Map.keys_of}
 use Rattle.std.proofs.lemmas.Bool.Decides.{nat_tests}
-use Rattle.base_types.specs.Orders.{addr_cmp}
+use Rattle.base_types.{specs.Orders.addr_cmp, proofs.MapLemmas.ascend-put}
 use Rattle.base_coins.specs.Coins.{Money, IsMoney, amount_of}
-use Rattle.base_roles.specs.declared.entities.StartingInfo.{StartingInfo}
-use Rattle.base_roles.specs.Entries.{at}
-use Rattle.base_roles.specs.Orders.{same_addr}
-use Rattle.base_types.proofs.MapLemmas.{ascend-put}
+use Rattle.base_roles.specs.{declared.entities.StartingInfo.StartingInfo, Entries.at, Orders.same_addr}
 use Rattle.rule_modules.specs.Periods.{Periods, Rewards, initial_records, starts_of, with_periods, ratio_at, references_of}
 use Rattle.mod_periods.specs.Kept.{Kept, period_cmp, record_of, events_of, with_record, with_current, released}
-use Rattle.mod_periods.specs.Stands.{AreSound, KeepsRewards}
-use Rattle.mod_periods.specs.Steps.{ended_kept}
-use Rattle.mod_periods.proofs.OrderLemmas.{period_total}
+use Rattle.mod_periods.{specs.{Stands.{AreSound, KeepsRewards}, Steps.ended_kept}, proofs.OrderLemmas.period_total}
 use Rattle.mod_periods.proofs.RecordLemmas.{counted, record-with, record-released, recounted-starts, recounted-events, recounted-current}
 use Rattle.mod_periods.proofs.CarryLemmas.{carry-periods}
 use Rattle.mod_periods.proofs.FoundLemmas.{found-own, found-other, record-is, sound-is, current-own, current-other, running-is}

@@ -1,22 +1,11 @@
 -- The slash events of an operator once one more stands, and what is known of their periods.
-use Rattle.std.specs.Prelude.{◌≡◌, ◌≢◌, ℕ, suc, ◌+◌, ◌<◌, ◌≤◌, ◌==◌, Bool, true, false, cond, List, [], ◌∷◌, ◌++◌, All, AllPairs, filter, map, refl}
-use Rattle.std.specs.declared.cmp.Ordering.{Ordering}
-use Rattle.std.specs.declared.cmp.Ordering.TheVariants.{Less, Equal, Greater}
-use Rattle.std.specs.BTreeMap.{insert_entry}
-use Rattle.std.specs.Cmp.{nat_cmp_is}
-use Rattle.std.specs.List.{AllByRecursion}
-use Rattle.std.specs.List.Sorted.{IsStrictlySortedBy}
-use Rattle.std.specs.Map.{keys_of}
-use Rattle.std.specs.Ordering.{nat_cmp, ordering_then, match_ordering}
-use Rattle.std.proofs.Common.{sym, ◌∙◌, ap, arith}
-use Rattle.std.proofs.lemmas.Bool.Decides.{nat_tests}
-use Rattle.std.proofs.lemmas.List.Elements.{All-nil, All-cons, All-head, All-tail, All-push}
-use Rattle.std.proofs.lemmas.List.Kept.{AllPairs-cons}
-use Rattle.std.proofs.lemmas.Map.Keys.{sorted_head, sorted_tail}
-use Rattle.std.proofs.lemmas.Map.Lookups.{exact_bytes}
+use Rattle.std.proofs.Common.{◌≡◌, ◌≢◌, ℕ, suc, ◌+◌, ◌<◌, ◌≤◌, ◌==◌, Bool, true, false, cond, List, [], ◌∷◌, ◌++◌, All, AllPairs, filter, map, refl, Ordering, Less, Equal, Greater, nat_cmp, sym, ◌∙◌, ap, arith}
+use Rattle.std.specs.{BTreeMap.insert_entry, Cmp.nat_cmp_is, List.{AllByRecursion, Sorted.IsStrictlySortedBy}}
+use Rattle.std.{specs.{Map.keys_of, Ordering.{ordering_then, match_ordering}}, proofs.lemmas.Bool.Decides.nat_tests}
+use Rattle.std.proofs.lemmas.List.{Elements.{All-nil, All-cons, All-head, All-tail, All-push}, Kept.AllPairs-cons}
+use Rattle.std.proofs.lemmas.Map.{Keys.{sorted_head, sorted_tail}, Lookups.exact_bytes}
 use Rattle.base_types.specs.Orders.{addr_cmp}
-use Rattle.base_roles.specs.declared.entities.SlashEvent.{SlashEvent}
-use Rattle.base_roles.specs.Orders.{pair_cmp, same_addr}
+use Rattle.base_roles.specs.{declared.entities.SlashEvent.SlashEvent, Orders.{pair_cmp, same_addr}}
 use Rattle.rule_modules.specs.Amounts.{count_where}
 use Rattle.mod_periods.specs.Kept.{Kept, event_cmp, event_at, events_of, with_event}
 use Rattle.mod_periods.proofs.OrderLemmas.{event_total, equal, same_is, same_itself}

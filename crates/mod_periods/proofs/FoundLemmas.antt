@@ -1,18 +1,12 @@
 -- What is known of an operator whose records stand for plain ones.
-use Rattle.std.specs.Prelude.{◌≡◌, ℕ, ◌+◌, ◌<◌, ◌≤◌, ◌==◌, ◌&&◌, Bool, true, false, cond, List, [], ◌∷◌, filter, map, Option, Some, None, is_some, option_map, unwrap_or, refl}
-use Rattle.std.specs.BTreeMap.{is_at}
-use Rattle.std.proofs.Common.{sym, ◌∙◌, ap, arith}
-use Rattle.std.proofs.lemmas.Bool.Decides.{nat_tests}
-use Rattle.base_types.specs.Orders.{addr_cmp}
-use Rattle.base_roles.specs.declared.entities.StartingInfo.{StartingInfo}
-use Rattle.base_roles.specs.Entries.{at}
-use Rattle.base_roles.specs.Orders.{pair_cmp, same_addr}
-use Rattle.base_types.proofs.MapLemmas.{at-put}
+use Rattle.std.proofs.Common.{◌≡◌, ℕ, ◌+◌, ◌<◌, ◌≤◌, ◌==◌, ◌&&◌, Bool, true, false, cond, List, [], ◌∷◌, filter, map, Option, Some, None, is_some, option_map, unwrap_or, refl, sym, ◌∙◌, ap, arith}
+use Rattle.std.{specs.BTreeMap.is_at, proofs.lemmas.Bool.Decides.nat_tests}
+use Rattle.base_types.{specs.Orders.addr_cmp, proofs.MapLemmas.at-put}
+use Rattle.base_roles.specs.{declared.entities.StartingInfo.StartingInfo, Entries.at, Orders.{pair_cmp, same_addr}}
 use Rattle.rule_modules.specs.Amounts.{count_where}
 use Rattle.rule_modules.specs.Periods.{Periods, Rewards, initial_records, periods_of, start_of, starts_of, ratio_at, references_of}
 use Rattle.mod_periods.specs.Kept.{Kept, period_cmp, current_of, record_of, with_current}
-use Rattle.mod_periods.specs.Stands.{AreSound, IsSound, KeepsRewards, history_of}
-use Rattle.mod_periods.specs.Steps.{running}
+use Rattle.mod_periods.specs.{Stands.{AreSound, IsSound, KeepsRewards, history_of}, Steps.running}
 use Rattle.mod_periods.proofs.RecordLemmas.{counted}
 use Rattle.mod_periods.proofs.OrderLemmas.{addr_total, same_is, same_itself, period_found, pair_found}
 

@@ -1,28 +1,20 @@
 -- What the two calls of the reward answer.
-use Rattle.std.specs.Prelude.{◌≡◌, ◌≢◌, ℕ, ◌+◌, ◌-◌, ◌==◌, true, false, if◌then◌else◌, List, [], Option, Some, None, is_some, unwrap_or, Result, Ok, Err, IfOk, IfErr, refl}
-use Rattle.std.proofs.Common.{sym, ◌∙◌, ap, subst, arith}
+use Rattle.std.proofs.Common.{◌≡◌, ◌≢◌, ℕ, ◌+◌, ◌-◌, ◌==◌, true, false, if◌then◌else◌, List, [], Option, Some, None, is_some, unwrap_or, Result, Ok, Err, IfOk, IfErr, refl, sym, ◌∙◌, ap, subst, arith}
 use Rattle.std.proofs.lemmas.Bool.Decides.{nat_tests}
 use Rattle.base_decimals.specs.declared.over.Over.{Over}
 use Rattle.base_types.specs.Orders.{addr_cmp}
 use Rattle.base_coins.specs.Coins.{Money, IsMoney}
-use Rattle.base_roles.specs.declared.entities.Historical.{Historical}
-use Rattle.base_roles.specs.declared.entities.StartingInfo.{StartingInfo}
-use Rattle.base_roles.specs.declared.faults.HookFault.{HookFault}
+use Rattle.base_roles.specs.declared.entities.{Historical.Historical, StartingInfo.StartingInfo}
+use Rattle.base_roles.specs.{declared.faults.HookFault.HookFault, Entries.at, Orders.pair_cmp, Flow.{◌>>=◌}}
 use Rattle.base_roles.specs.declared.faults.HookFault.TheVariants as hook
-use Rattle.base_roles.specs.Entries.{at}
-use Rattle.base_roles.specs.Orders.{pair_cmp}
-use Rattle.base_roles.specs.Flow.{◌>>=◌}
 use Rattle.mod_sums.specs.Faults.{IsExcessOf}
-use Rattle.mod_periods.specs.Answers.{Gives, OnLimit}
-use Rattle.mod_periods.specs.Earning.{kept_reward, CanEarn}
-use Rattle.mod_periods.specs.Kept.{Kept, current_of, record_of, info_of}
-use Rattle.rule_modules.specs.Periods.{Periods, Rewards, periods_of, start_of, ratio_at, last_ended, earned, stretches_of, reward_of, reward_at, reward_after}
-use Rattle.mod_periods.specs.Stands.{KeepsRewards, IsKept}
-use Rattle.mod_periods.specs.Steps.{running, next_ratio}
-use Rattle.mod_periods.proofs.FoundLemmas.{periods-there, periods-is, running-is}
+use Rattle.mod_periods.specs.{Answers.{Gives, OnLimit}, Earning.{kept_reward, CanEarn}}
+use Rattle.mod_periods.specs.{Kept.{Kept, current_of, record_of, info_of}, Stands.{KeepsRewards, IsKept}}
+use Rattle.mod_periods.{specs.Steps.{running, next_ratio}, proofs.FoundLemmas.{periods-there, periods-is, running-is}}
 use Rattle.mod_periods.proofs.RatioLemmas.{last-record, next-grown, next-ended, ended-err}
 use Rattle.mod_periods.proofs.EndLemmas.{ended_with, IsGrown}
 use Rattle.mod_periods.proofs.RewardLemmas.{can-now, reward-now, can-after, reward-after}
+use Rattle.rule_modules.specs.Periods.{Periods, Rewards, periods_of, start_of, ratio_at, last_ended, earned, stretches_of, reward_of, reward_at, reward_after}
 
 gives-none : {A : Type 0} (due : Result A Over) → Gives due (Err hook.NoMemory)
 gives-none (Ok a) = tt

@@ -1,18 +1,13 @@
 -- A new operator's records stand for the initial ones.
-use Rattle.std.specs.Prelude.{◌≡◌, ℕ, ◌+◌, ◌^◌, ◌≤◌, ◌==◌, Bool, true, false, cond, nat_le, if◌then◌else◌, List, [], Some, None, unwrap_or, ◌<◌, refl}
-use Rattle.std.specs.List.Sorted.{IsStrictlySortedBy}
-use Rattle.std.specs.Map.{keys_of}
-use Rattle.std.proofs.Common.{sym, ◌∙◌, ap, subst, arith}
-use Rattle.std.proofs.lemmas.Bool.Decides.{nat_tests}
+use Rattle.std.proofs.Common.{◌≡◌, ℕ, ◌+◌, ◌^◌, ◌≤◌, ◌==◌, Bool, true, false, cond, nat_le, if◌then◌else◌, List, [], Some, None, unwrap_or, ◌<◌, refl, sym, ◌∙◌, ap, subst, arith}
+use Rattle.std.{specs.{List.Sorted.IsStrictlySortedBy, Map.keys_of}, proofs.lemmas.Bool.Decides.nat_tests}
 use Rattle.std.proofs.lemmas.List.Elements.{All-nil}
 use Rattle.base_types.specs.Orders.{addr_cmp}
 use Rattle.base_coins.specs.Coins.{IsMoney, amount_of}
-use Rattle.base_roles.specs.declared.entities.SlashEvent.{SlashEvent}
-use Rattle.base_roles.specs.Entries.{at}
+use Rattle.base_roles.specs.{declared.entities.SlashEvent.SlashEvent, Entries.at}
 use Rattle.rule_modules.specs.Periods.{Periods, Rewards, initial_records, starts_of, with_periods, ratio_at, references_of}
 use Rattle.mod_periods.specs.Kept.{Kept, period_cmp, no_records, current_of, record_of, with_record}
-use Rattle.mod_periods.specs.Stands.{AreSound, KeepsRewards, no_rewards, history_of}
-use Rattle.mod_periods.specs.Steps.{made_kept}
+use Rattle.mod_periods.specs.{Stands.{AreSound, KeepsRewards, no_rewards, history_of}, Steps.made_kept}
 use Rattle.mod_periods.proofs.CarryLemmas.{carry-periods}
 use Rattle.mod_periods.proofs.FoundLemmas.{found-own, found-other, current-own, current-other, no-starts, no-periods, none-started}
 use Rattle.mod_periods.proofs.RecordLemmas.{counted, record-with}

@@ -1,19 +1,11 @@
 -- The items of records: told apart by their kinds, and with one more.
-use Rattle.std.proofs.Common.{◌≡◌, ℕ, Bool, true, false, List, ◌++◌, refl}
-use Rattle.std.specs.Prelude.{is_some}
-use Rattle.std.specs.List.Sorted.{IsStrictlySortedBy}
-use Rattle.std.specs.Map.{keys_of}
-use Rattle.std.specs.BTreeMap.{insert_entry}
+use Rattle.std.proofs.Common.{◌≡◌, ℕ, Bool, true, false, List, ◌++◌, refl, is_some}
+use Rattle.std.specs.{List.Sorted.IsStrictlySortedBy, Map.keys_of, BTreeMap.insert_entry}
 use Rattle.base_types.specs.Orders.{addr_cmp}
-use Rattle.base_roles.specs.declared.entities.Historical.{Historical}
-use Rattle.base_roles.specs.declared.entities.StartingInfo.{StartingInfo}
-use Rattle.base_roles.specs.declared.entities.SlashEvent.{SlashEvent}
-use Rattle.base_roles.specs.declared.items.Item.{Item}
+use Rattle.base_roles.specs.declared.entities.{Historical.Historical, StartingInfo.StartingInfo, SlashEvent.SlashEvent}
+use Rattle.base_roles.specs.{declared.items.Item.Item, Items.IsAdded, Orders.pair_cmp}
 use Rattle.base_roles.specs.declared.items.Item.TheVariants as item
-use Rattle.base_roles.specs.Items.{IsAdded}
-use Rattle.base_roles.specs.Orders.{pair_cmp}
-use Rattle.base_records.specs.Kinds.{AreApart, AreOf, IsByKey, either}
-use Rattle.base_records.specs.Items.{rows_of, AnyValue}
+use Rattle.base_records.specs.{Kinds.{AreApart, AreOf, IsByKey, either}, Items.{rows_of, AnyValue}}
 use Rattle.base_records.proofs.KindLemmas.{added-first, added-second, by-either, of-both}
 use Rattle.base_records.proofs.RowLemmas.{row-added, rows-of-kind}
 use Rattle.mod_periods.specs.Kept.{Kept, period_cmp, event_cmp, with_current, with_history, with_info, with_event}

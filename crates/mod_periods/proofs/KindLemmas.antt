@@ -1,17 +1,11 @@
 -- The four kinds of records: how their keys are told apart, and how items belong to them.
-use Rattle.std.proofs.Common.{◌≡◌, ℕ, List, refl, ap, inl, inr}
-use Rattle.std.specs.Prelude.{◌⊎◌}
+use Rattle.std.proofs.Common.{◌≡◌, ℕ, List, refl, ap, inl, inr, ◌⊎◌, Equal, nat_cmp}
 use Rattle.std.proofs.lemmas.Map.Lookups.{exact_bytes, exact_unsigned, exact_pairs}
-use Rattle.std.specs.declared.cmp.Ordering.TheVariants.{Equal}
-use Rattle.std.specs.Ordering.{nat_cmp}
 use Rattle.base_types.specs.Orders.{addr_cmp}
-use Rattle.base_roles.specs.declared.entities.SlashEvent.{SlashEvent}
-use Rattle.base_roles.specs.declared.items.Item.{Item}
+use Rattle.base_roles.specs.{declared.{entities.SlashEvent.SlashEvent, items.Item.Item}, Orders.pair_cmp}
 use Rattle.base_roles.specs.declared.items.Item.TheVariants as item
-use Rattle.base_roles.specs.Orders.{pair_cmp}
 use Rattle.rule_modules.proofs.SoundLemmas.{exact_addr, exact_pair}
-use Rattle.base_records.specs.Items.{AnyValue, IsRowed}
-use Rattle.base_records.proofs.RowedLemmas.{IsOfKind, IsOfOther, rowed}
+use Rattle.base_records.{specs.Items.{AnyValue, IsRowed}, proofs.RowedLemmas.{IsOfKind, IsOfOther, rowed}}
 use Rattle.mod_periods.specs.Kept.{period_cmp, event_cmp}
 use Rattle.mod_periods.specs.Items.{current_item, historical_item, start_item, event_item, current_gone, historical_gone, start_gone, event_gone, current_entry, historical_entry, start_entry, event_entry, same_period, same_history, same_start}
 use Rattle.mod_periods.proofs.SameLemmas.{period-yes, period-no, history-yes, history-no, start-yes, start-no}

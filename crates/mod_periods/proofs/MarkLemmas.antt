@@ -1,11 +1,9 @@
 -- Four tables that are marked together, seen as one.
-use Rattle.std.proofs.Common.{◌≡◌, ◌∙◌, ℕ, ◌+◌, Bool, List, [], ◌∷◌, ◌++◌, length, refl, sym, ap, arith}
-use Rattle.std.specs.Prelude.{suc, zero}
+use Rattle.std.proofs.Common.{◌≡◌, ◌∙◌, ℕ, ◌+◌, Bool, List, [], ◌∷◌, ◌++◌, length, refl, sym, ap, arith, suc, zero}
 use Rattle.std.specs.List.{range_with_len}
 use Rattle.base_table.specs.Tabled.{Tabled}
 use Rattle.base_table.specs.Tabled as table
-use Rattle.base_roles.specs.declared.entities.Historical.{Historical}
-use Rattle.base_roles.specs.declared.entities.StartingInfo.{StartingInfo}
+use Rattle.base_roles.specs.declared.entities.{Historical.Historical, StartingInfo.StartingInfo}
 use Rattle.base_records.proofs.MarkLemmas.{none_from_length, popped_length}
 use Rattle.mod_periods.specs.Kept.{Recorded, side_by_side, with_mark, IsGoneBack, IsForgotten, HaveSameMarks}
 

@@ -1,12 +1,8 @@
 -- The orders of the keys of periods and of slash events: they are total, and tell all keys apart. Those of operators and
 -- of delegations are passed on.
-use Rattle.std.specs.Prelude.{◌≡◌, ℕ, ◌==◌, ◌&&◌, List}
-use Rattle.std.specs.Cmp.{IsTotalOrder, tied_then, on_total, then_total}
-use Rattle.std.specs.Ordering.{nat_cmp, is_eq}
-use Rattle.std.specs.BTreeMap.{is_at}
-use Rattle.std.proofs.Common.{sym, ◌∙◌, ap, arith}
-use Rattle.std.proofs.lemmas.Bool.Decides.{nat_tests}
-use Rattle.std.proofs.lemmas.Cmp.{nat_cmp_total}
+use Rattle.std.proofs.Common.{◌≡◌, ℕ, ◌==◌, ◌&&◌, List, nat_cmp, is_eq, sym, ◌∙◌, ap, arith}
+use Rattle.std.specs.{Cmp.{IsTotalOrder, tied_then, on_total, then_total}, BTreeMap.is_at}
+use Rattle.std.proofs.lemmas.{Bool.Decides.nat_tests, Cmp.nat_cmp_total}
 use Rattle.base_types.specs.Orders.{addr_cmp}
 use Rattle.base_roles.specs.Orders.{same_addr}
 use Rattle.mod_periods.specs.Kept.{period_cmp, event_cmp}

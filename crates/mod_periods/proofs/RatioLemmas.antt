@@ -1,31 +1,20 @@
 -- The ratio that a period ends with, by what is kept and by the rule.
-use Rattle.std.specs.Prelude.{◌≡◌, ◌≢◌, ℕ, ◌+◌, ◌-◌, ◌^◌, ◌≤◌, ◌==◌, Bool, true, false, List, [], ◌∷◌, ◌++◌, Some, is_some, Result, Ok, Err, refl}
-use Rattle.std.specs.List.Sorted.{IsStrictlySortedBy}
-use Rattle.std.specs.Map.{keys_of}
-use Rattle.std.proofs.Common.{sym, ◌∙◌, ap, subst, arith}
-use Rattle.std.proofs.lemmas.Bool.Decides.{nat_tests}
-use Rattle.base_decimals.specs.declared.over.Over.{Over}
-use Rattle.base_decimals.specs.Decimals.{period_over}
+use Rattle.std.proofs.Common.{◌≡◌, ◌≢◌, ℕ, ◌+◌, ◌-◌, ◌^◌, ◌≤◌, ◌==◌, Bool, true, false, List, [], ◌∷◌, ◌++◌, Some, is_some, Result, Ok, Err, refl, sym, ◌∙◌, ap, subst, arith}
+use Rattle.std.{specs.{List.Sorted.IsStrictlySortedBy, Map.keys_of}, proofs.lemmas.Bool.Decides.nat_tests}
+use Rattle.base_decimals.specs.{declared.over.Over.Over, Decimals.period_over}
 use Rattle.base_types.specs.Orders.{addr_cmp}
-use Rattle.base_coins.specs.Coins.{Money, IsMoney, coins_added}
-use Rattle.base_coins.proofs.Order.{rises_from_money}
-use Rattle.base_coins.proofs.Amounts.{amount-added}
+use Rattle.base_coins.{specs.Coins.{Money, IsMoney, coins_added}, proofs.{Order.rises_from_money, Amounts.amount-added}}
 use Rattle.base_coins.proofs.Results.{sum_is_money}
-use Rattle.base_roles.specs.declared.facts.Fact.{Fact}
-use Rattle.base_roles.specs.declared.facts.Fact.TheVariants.{Period}
-use Rattle.base_roles.specs.declared.faults.HookFault.{HookFault}
-use Rattle.base_roles.specs.declared.faults.HookFault.TheVariants as hook
-use Rattle.base_roles.specs.Entries.{at}
+use Rattle.base_roles.specs.{declared.{facts.Fact.{Fact, TheVariants.Period}, faults.HookFault.HookFault}, Entries.at}
 use Rattle.base_roles.specs.Flow.{◌>>=◌, ◌>>◌, stop_if}
+use Rattle.base_roles.specs.declared.faults.HookFault.TheVariants as hook
 use Rattle.mod_sums.specs.Faults.{IsExcessOf}
-use Rattle.mod_periods.specs.Answers.{Ends}
-use Rattle.rule_modules.specs.Periods.{Periods, Rewards, periods_of, starts_of, ratio_at, period_ended, references_of}
-use Rattle.mod_periods.specs.Kept.{Kept, period_cmp, current_of, record_of}
+use Rattle.mod_periods.specs.{Answers.Ends, Kept.{Kept, period_cmp, current_of, record_of}}
 use Rattle.mod_periods.specs.Stands.{AreSound, KeepsRewards, IsKept}
-use Rattle.mod_periods.specs.Steps.{running, ratio_in, next_ratio, ended_kept}
-use Rattle.mod_periods.proofs.RecordLemmas.{counted-some}
+use Rattle.mod_periods.{specs.Steps.{running, ratio_in, next_ratio, ended_kept}, proofs.RecordLemmas.counted-some}
 use Rattle.mod_periods.proofs.FoundLemmas.{periods-there, periods-is, running-is, record-is, sound-is, last-referred}
 use Rattle.mod_periods.proofs.EndLemmas.{ended_with, IsGrown, end-stands}
+use Rattle.rule_modules.specs.Periods.{Periods, Rewards, periods_of, starts_of, ratio_at, period_ended, references_of}
 
 -- a ratio unless the period is at its limit
 abbrev limited : Bool → Result Money Over → Result Money Over

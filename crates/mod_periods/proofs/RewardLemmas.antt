@@ -1,26 +1,17 @@
 -- The reward on the kept records is that on the ratios of all periods ever ended.
-use Rattle.std.specs.Prelude.{◌≡◌, ◌≢◌, ℕ, ◌+◌, ◌-◌, ◌^◌, ◌<◌, ◌≤◌, ◌==◌, Bool, true, false, cond, if◌then◌else◌, List, [], ◌∷◌, All, AllPairs, filter, Some, None, is_some, unwrap_or, refl}
-use Rattle.std.proofs.Common.{sym, ◌∙◌, ap, subst, arith}
+use Rattle.std.proofs.Common.{◌≡◌, ◌≢◌, ℕ, ◌+◌, ◌-◌, ◌^◌, ◌<◌, ◌≤◌, ◌==◌, Bool, true, false, cond, if◌then◌else◌, List, [], ◌∷◌, All, AllPairs, filter, Some, None, is_some, unwrap_or, refl, sym, ◌∙◌, ap, subst, arith}
 use Rattle.std.proofs.lemmas.Bool.Decides.{nat_tests}
 use Rattle.std.proofs.lemmas.List.Elements.{All-nil, All-cons, All-head, All-tail, All-filter, All-weaker}
 use Rattle.base_types.specs.Orders.{addr_cmp}
 use Rattle.base_coins.specs.Coins.{Money, IsMoney, amount_of, coins_added, coins_taken, coins_mul_cut}
-use Rattle.base_roles.specs.declared.entities.Historical.{Historical}
-use Rattle.base_roles.specs.declared.entities.StartingInfo.{StartingInfo}
-use Rattle.base_roles.specs.declared.entities.SlashEvent.{SlashEvent}
-use Rattle.base_roles.specs.Entries.{at}
-use Rattle.base_roles.specs.Orders.{pair_cmp, same_addr}
-use Rattle.base_roles.specs.Flow.{◌>>=◌}
+use Rattle.base_roles.specs.declared.entities.{Historical.Historical, StartingInfo.StartingInfo, SlashEvent.SlashEvent}
+use Rattle.base_roles.specs.{Entries.at, Orders.{pair_cmp, same_addr}, Flow.{◌>>=◌}}
 use Rattle.rule_modules.specs.Amounts.{count_where}
-use Rattle.mod_periods.specs.Earning.{ratios_with, kept_reward, CanEarn}
-use Rattle.mod_periods.specs.Kept.{Kept, record_of, events_of}
 use Rattle.rule_modules.specs.Periods.{Periods, Rewards, start_of, starts_of, ratio_at, references_of, Stretch, slashed_stake, stretches, stretches_of, falls_after, earned}
-use Rattle.mod_periods.specs.Stands.{AreSound, KeepsRewards}
-use Rattle.mod_periods.proofs.OrderLemmas.{same_itself}
-use Rattle.mod_periods.proofs.TallyLemmas.{tally, tally-some}
-use Rattle.mod_periods.proofs.EventLemmas.{pairs-respect}
-use Rattle.mod_periods.proofs.RecordLemmas.{counted, counted-some}
-use Rattle.mod_periods.proofs.FoundLemmas.{record-is, sound-is, periods-is}
+use Rattle.mod_periods.specs.{Earning.{ratios_with, kept_reward, CanEarn}, Kept.{Kept, record_of, events_of}}
+use Rattle.mod_periods.{specs.Stands.{AreSound, KeepsRewards}, proofs.OrderLemmas.same_itself}
+use Rattle.mod_periods.proofs.{TallyLemmas.{tally, tally-some}, EventLemmas.pairs-respect}
+use Rattle.mod_periods.proofs.{RecordLemmas.{counted, counted-some}, FoundLemmas.{record-is, sound-is, periods-is}}
 use Rattle.mod_periods.proofs.EndLemmas.{ended_with, IsGrown, ratio-new, ratio-old}
 use Rattle.mod_periods.proofs.EarnLemmas.{ratio-found, ratio-last}
 

@@ -1,11 +1,8 @@
 -- Whether two values of a kind of records are one.
-use Rattle.std.specs.Prelude.{◌≡◌, ℕ, ◌==◌, ◌&&◌, Bool, true, false}
-use Rattle.std.proofs.Common.{sym, ◌∙◌, ap}
-use Rattle.base_roles.specs.declared.entities.Historical.{Historical}
-use Rattle.base_roles.specs.declared.entities.StartingInfo.{StartingInfo}
+use Rattle.std.proofs.Common.{◌≡◌, ℕ, ◌==◌, ◌&&◌, Bool, true, false, sym, ◌∙◌, ap}
+use Rattle.base_roles.specs.declared.entities.{Historical.Historical, StartingInfo.StartingInfo}
 use Rattle.base_records.proofs.SameLemmas.{both, number, number_itself}
-use Rattle.mod_sums.specs.Same.{same_money}
-use Rattle.mod_sums.proofs.SameLemmas.{money, money_itself, true_false}
+use Rattle.mod_sums.{specs.Same.same_money, proofs.SameLemmas.{money, money_itself, true_false}}
 use Rattle.mod_periods.specs.Items.{same_history, same_start, same_period}
 
 pub period-yes : (a b : ℕ) → same_period a b ≡ true → a ≡ b

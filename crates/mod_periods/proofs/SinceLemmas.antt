@@ -1,24 +1,14 @@
 -- The walk over the slash events of an operator that are not below a height.
-use Rattle.std.specs.Prelude.{◌≡◌, ℕ, suc, ◌<◌, ◌&&◌, not, Bool, true, false, cond, nat_le, List, [], ◌∷◌, ◌++◌, length, filter, map, Option, Some, None, unwrap_or, refl}
-use Rattle.std.specs.declared.cmp.Ordering.{Ordering}
-use Rattle.std.specs.declared.cmp.Ordering.TheVariants.{Less, Equal, Greater}
+use Rattle.std.proofs.Common.{◌≡◌, ℕ, suc, ◌<◌, ◌&&◌, not, Bool, true, false, cond, nat_le, List, [], ◌∷◌, ◌++◌, length, filter, map, Option, Some, None, unwrap_or, refl, Ordering, Less, Equal, Greater, nat_cmp, is_gt, is_le, is_lt, sym, ◌∙◌, ap, subst, arith, append_assoc}
 use Rattle.std.specs.declared.ops.Bound.TheVariants.{Included, Excluded, Unbounded}
-use Rattle.std.specs.BTreeMap.Range.{entries_between, range_contains}
-use Rattle.std.specs.List.{AllByRecursion}
-use Rattle.std.specs.List.Sorted.{IsStrictlySortedBy}
-use Rattle.std.specs.Map.{keys_of}
-use Rattle.std.specs.Ordering.{nat_cmp, ordering_then, is_gt, is_le, is_lt}
-use Rattle.std.proofs.Common.{sym, ◌∙◌, ap, subst, arith, append_assoc}
+use Rattle.std.specs.{BTreeMap.Range.{entries_between, range_contains}, List.AllByRecursion}
+use Rattle.std.specs.{List.Sorted.IsStrictlySortedBy, Map.keys_of, Ordering.ordering_then}
 use Rattle.std.proofs.lemmas.Bool.Decides.{nat_tests}
 use Rattle.base_types.specs.Orders.{addr_cmp}
-use Rattle.base_roles.specs.declared.entities.SlashEvent.{SlashEvent}
-use Rattle.base_roles.specs.Orders.{same_addr}
+use Rattle.base_roles.specs.{declared.entities.SlashEvent.SlashEvent, Orders.same_addr}
 use Rattle.base_table.specs.Tabled.{first_of}
-use Rattle.mod_periods.specs.Earning.{events_since}
-use Rattle.mod_periods.specs.GroupedKeys.{events_are_grouped}
-use Rattle.mod_periods.specs.Kept.{event_cmp, event_at}
-use Rattle.mod_periods.proofs.EventLemmas.{Slashes}
-use Rattle.mod_periods.proofs.OrderLemmas.{event_total, equal, same_is, same_itself}
+use Rattle.mod_periods.specs.{Earning.events_since, GroupedKeys.events_are_grouped, Kept.{event_cmp, event_at}}
+use Rattle.mod_periods.proofs.{EventLemmas.Slashes, OrderLemmas.{event_total, equal, same_is, same_itself}}
 use Rattle.mod_periods.proofs.WalkLemmas.{IsUpward, is_after, after-upward, included-upward, not_above-trans, walk-next}
 
 -- the operator's own events of a list of entries

@@ -1,25 +1,18 @@
 -- A slash that is recorded carries the relation.
-use Rattle.std.specs.Prelude.{◌≡◌, ◌≢◌, ℕ, ◌+◌, ◌^◌, ◌<◌, ◌≤◌, ◌==◌, Bool, true, false, cond, List, [], ◌∷◌, ◌++◌, All, Some, unwrap_or, refl}
-use Rattle.std.specs.List.Sorted.{IsStrictlySortedBy}
-use Rattle.std.specs.Map.{keys_of}
-use Rattle.std.proofs.Common.{sym, ◌∙◌, ap, subst, arith}
+use Rattle.std.proofs.Common.{◌≡◌, ◌≢◌, ℕ, ◌+◌, ◌^◌, ◌<◌, ◌≤◌, ◌==◌, Bool, true, false, cond, List, [], ◌∷◌, ◌++◌, All, Some, unwrap_or, refl, sym, ◌∙◌, ap, subst, arith}
+use Rattle.std.specs.{List.Sorted.IsStrictlySortedBy, Map.keys_of}
 use Rattle.std.proofs.lemmas.List.Elements.{All-push, All-nil, All-cons, All-head, All-tail}
 use Rattle.base_types.specs.Orders.{addr_cmp}
-use Rattle.base_roles.specs.declared.entities.SlashEvent.{SlashEvent}
-use Rattle.base_roles.specs.declared.entities.StartingInfo.{StartingInfo}
-use Rattle.base_roles.specs.Entries.{at}
+use Rattle.base_roles.specs.{declared.entities.{SlashEvent.SlashEvent, StartingInfo.StartingInfo}, Entries.at}
 use Rattle.base_roles.specs.Orders.{same_addr}
 use Rattle.rule_modules.specs.Amounts.{count_where}
 use Rattle.rule_modules.specs.Periods.{Periods, Rewards, initial_records, starts_of, with_periods, ratio_at, references_of}
 use Rattle.mod_periods.specs.Kept.{Kept, period_cmp, event_cmp, record_of, events_of, with_event}
-use Rattle.mod_periods.specs.Stands.{AreSound, KeepsRewards}
-use Rattle.mod_periods.specs.Steps.{slashed_kept}
-use Rattle.mod_periods.proofs.OrderLemmas.{same_is, same_itself}
-use Rattle.mod_periods.proofs.TallyLemmas.{count-last}
+use Rattle.mod_periods.specs.{Stands.{AreSound, KeepsRewards}, Steps.slashed_kept}
+use Rattle.mod_periods.proofs.{OrderLemmas.{same_is, same_itself}, TallyLemmas.count-last}
 use Rattle.mod_periods.proofs.EventLemmas.{events-other, events-own, events-earlier, events-before, ascend-last}
 use Rattle.mod_periods.proofs.RecordLemmas.{record-referred, recounted-current, recounted-starts, recounted-events}
-use Rattle.mod_periods.proofs.CountLemmas.{changed, unchanged}
-use Rattle.mod_periods.proofs.CarryLemmas.{carry-periods}
+use Rattle.mod_periods.proofs.{CountLemmas.{changed, unchanged}, CarryLemmas.carry-periods}
 use Rattle.mod_periods.proofs.FoundLemmas.{record-is, sound-is, current-is, last-referred, same_period, other_period, later_period}
 
 -- periods with one slash event more

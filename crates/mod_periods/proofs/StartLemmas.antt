@@ -1,24 +1,16 @@
 -- The start of a delegation, and its end, carry the relation.
-use Rattle.std.specs.Prelude.{◌≡◌, ◌≢◌, ℕ, ◌+◌, ◌-◌, ◌==◌, ◌&&◌, Bool, true, false, cond, List, map, Some, None, refl}
-use Rattle.std.specs.BTreeMap.{is_at}
-use Rattle.std.specs.List.Sorted.{IsStrictlySortedBy}
-use Rattle.std.specs.Map.{keys_of}
-use Rattle.std.proofs.Common.{sym, ◌∙◌, ap, arith}
-use Rattle.base_types.specs.Orders.{addr_cmp}
-use Rattle.base_roles.specs.declared.entities.StartingInfo.{StartingInfo}
-use Rattle.base_roles.specs.Entries.{at}
-use Rattle.base_roles.specs.Orders.{pair_cmp, same_addr}
-use Rattle.base_types.proofs.MapLemmas.{ascend-put, ascend-taken, at-put, at-taken}
+use Rattle.std.proofs.Common.{◌≡◌, ◌≢◌, ℕ, ◌+◌, ◌-◌, ◌==◌, ◌&&◌, Bool, true, false, cond, List, map, Some, None, refl, sym, ◌∙◌, ap, arith}
+use Rattle.std.specs.{BTreeMap.is_at, List.Sorted.IsStrictlySortedBy, Map.keys_of}
+use Rattle.base_types.{specs.Orders.addr_cmp, proofs.MapLemmas.{ascend-put, ascend-taken, at-put, at-taken}}
+use Rattle.base_roles.specs.{declared.entities.StartingInfo.StartingInfo, Entries.at, Orders.{pair_cmp, same_addr}}
 use Rattle.rule_modules.specs.Periods.{Periods, Rewards, start_of, starts_of, with_start, without_start, ratio_at, references_of}
 use Rattle.mod_periods.specs.Kept.{Kept, period_cmp, record_of, with_info, without_info}
-use Rattle.mod_periods.specs.Stands.{AreSound, KeepsRewards}
-use Rattle.mod_periods.specs.Steps.{started_kept, stopped_kept}
+use Rattle.mod_periods.specs.{Stands.{AreSound, KeepsRewards}, Steps.{started_kept, stopped_kept}}
 use Rattle.mod_periods.proofs.OrderLemmas.{pair_total, same_is, same_itself, pair_found}
 use Rattle.mod_periods.proofs.TallyLemmas.{passing-put, passing-removed, tally, one, tally-put, tally-removed}
 use Rattle.mod_periods.proofs.EventLemmas.{pairs-respect}
 use Rattle.mod_periods.proofs.RecordLemmas.{record-referred, record-released, recounted-current, recounted-starts, recounted-events}
-use Rattle.mod_periods.proofs.CountLemmas.{changed, unchanged}
-use Rattle.mod_periods.proofs.CarryLemmas.{carry-starts}
+use Rattle.mod_periods.proofs.{CountLemmas.{changed, unchanged}, CarryLemmas.carry-starts}
 use Rattle.mod_periods.proofs.FoundLemmas.{record-is, sound-is, last-referred, same_period, other_period, later_period}
 
 -- a start at an operator changes no other's starts

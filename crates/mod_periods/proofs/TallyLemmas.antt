@@ -1,11 +1,6 @@
 -- Entries whose keys pass a test: how many of their values pass another, and which they are, after a change of one.
-use Rattle.std.specs.Prelude.{◌≡◌, ℕ, ◌+◌, Bool, true, false, cond, List, [], ◌∷◌, ◌++◌, ◌≤◌, suc, length, filter, map, Some, None, unwrap_or, refl}
-use Rattle.std.specs.declared.cmp.Ordering.{Ordering}
-use Rattle.std.specs.declared.cmp.Ordering.TheVariants.{Less, Equal, Greater}
-use Rattle.std.specs.BTreeMap.{insert_entry, is_at}
-use Rattle.std.specs.Map.{lookup, remove_entry}
-use Rattle.std.specs.Ordering.{is_eq, match_ordering}
-use Rattle.std.proofs.Common.{sym, ◌∙◌, ap, arith}
+use Rattle.std.proofs.Common.{◌≡◌, ℕ, ◌+◌, Bool, true, false, cond, List, [], ◌∷◌, ◌++◌, ◌≤◌, suc, length, filter, map, Some, None, unwrap_or, refl, Ordering, Less, Equal, Greater, is_eq, sym, ◌∙◌, ap, arith}
+use Rattle.std.specs.{BTreeMap.{insert_entry, is_at}, Map.{lookup, remove_entry}, Ordering.match_ordering}
 use Rattle.rule_modules.specs.Amounts.{count_where}
 use Rattle.mod_periods.proofs.OrderLemmas.{equal}
 

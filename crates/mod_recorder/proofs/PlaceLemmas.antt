@@ -1,10 +1,7 @@
 -- Places of marks among the notes: they rise, and what stood at each of them stays while notes are put behind.
-use Rattle.std.proofs.Common.{◌≡◌, ℕ, ◌≤◌, Bool, true, false, List, [], ◌∷◌, ◌++◌, length, map, take, refl, ap, arith}
-use Rattle.std.specs.Prelude.{◌&&◌, nat_le}
+use Rattle.std.proofs.Common.{◌≡◌, ℕ, ◌≤◌, Bool, true, false, List, [], ◌∷◌, ◌++◌, length, map, take, refl, ap, arith, ◌&&◌, nat_le}
 use Rattle.std.proofs.lemmas.Bool.Decides.{nat_tests}
-use Rattle.mod_recorder.specs.declared.note.Note.{Note}
-use Rattle.mod_recorder.specs.declared.recorder.Place.{Place}
-use Rattle.mod_recorder.specs.Recorded.{are_rising, noted_at}
+use Rattle.mod_recorder.specs.{declared.{note.Note.Note, recorder.Place.Place}, Recorded.{are_rising, noted_at}}
 
 -- ---- places that rise
 

@@ -1,10 +1,7 @@
 -- What a recorder has after a note, a mark, going back and closing a mark, of its list of notes and the places of its marks.
-use Rattle.std.proofs.Common.{◌≡◌, ◌∙◌, ℕ, ◌≤◌, true, List, [], ◌∷◌, ◌++◌, length, map, take, Option, Some, None, append-nil, sym, ap, subst, arith}
+use Rattle.std.proofs.Common.{◌≡◌, ◌∙◌, ℕ, ◌≤◌, true, List, [], ◌∷◌, ◌++◌, length, map, take, Option, Some, None, append-nil, sym, ap, subst, arith, option_to_list}
 use Rattle.std.proofs.lemmas.Grind.{common_steps}
-use Rattle.std.specs.Option.{option_to_list}
-use Rattle.mod_recorder.specs.declared.note.Note.{Note}
-use Rattle.mod_recorder.specs.declared.recorder.Place.{Place}
-use Rattle.mod_recorder.specs.Notes.{Noted}
+use Rattle.mod_recorder.specs.{declared.{note.Note.Note, recorder.Place.Place}, Notes.Noted}
 use Rattle.mod_recorder.specs.Recorded.{are_rising, noted_at}
 use Rattle.mod_recorder.proofs.PlaceLemmas.{at_first, at_places, before_last, joined, raised}
 

@@ -1,26 +1,19 @@
 -- Redelegating as its rule has it: what is refused first, and what follows.
-use Rattle.std.proofs.Common.{◌≡◌, ◌∙◌, ℕ, ◌≤◌, Bool, true, false, List, Option, Some, None, refl, ap, subst, arith}
-use Rattle.std.specs.Prelude.{Ok, Err, Result, ◌==◌, nat_lt, nat_le, length, is_none, ⊤}
-use Rattle.std.proofs.lemmas.Bool.Decides.{nat_tests}
+use Rattle.std.proofs.Common.{◌≡◌, ◌∙◌, ℕ, ◌≤◌, Bool, true, false, List, Option, Some, None, refl, ap, subst, arith, Ok, Err, Result, ◌==◌, nat_lt, nat_le, length, is_none}
+use Rattle.std.{specs.Prelude.⊤, proofs.lemmas.Bool.Decides.nat_tests}
 use Rattle.base_coins.specs.declared.coin.Coin.{Coin}
-use Rattle.base_shares.specs.declared.fault.ShareFault.{ShareFault}
-use Rattle.base_shares.specs.Shares.{amount_out, shares_for_amount}
-use Rattle.base_roles.specs.declared.entities.Validator.{Validator}
-use Rattle.base_roles.specs.declared.faults.MessageFault.{MessageFault}
-use Rattle.base_roles.specs.declared.faults.MessageFault.TheVariants as stop
+use Rattle.base_shares.specs.{declared.fault.ShareFault.ShareFault, Shares.{amount_out, shares_for_amount}}
+use Rattle.base_roles.specs.declared.{entities.Validator.Validator, faults.MessageFault.MessageFault}
 use Rattle.base_roles.specs.declared.refusal.Refusal.{Refusal}
 use Rattle.base_roles.specs.declared.refusal.Refusal.TheVariants.{WrongDenom, NonPositive, NoValidator, NoTokens, TooManyShares, SelfRedelegation, Transitive, RedelegationsFull, TinyRedelegation, Overflow}
-use Rattle.base_roles.specs.Answers.{AnswersAs}
-use Rattle.base_roles.specs.Orders.{same_addr}
-use Rattle.base_roles.specs.Staked.{Staked, validator_at, delegation}
-use Rattle.base_roles.specs.StakeChanges.{HasShares}
-use Rattle.base_roles.specs.Flow.{◌>>=◌, ◌>>◌, stop_if, or_stop, stopping}
+use Rattle.base_roles.specs.{Answers.AnswersAs, Orders.same_addr, Staked.{Staked, validator_at, delegation}}
+use Rattle.base_roles.specs.{StakeChanges.HasShares, Flow.{◌>>=◌, ◌>>◌, stop_if, or_stop, stopping}}
 use Rattle.base_roles.specs.World.{View, Hook, Told, World}
+use Rattle.base_roles.specs.declared.faults.MessageFault.TheVariants as stop
 use Rattle.rule_modules.specs.Delegating.{is_wrong, shares_given, pool, delegated}
 use Rattle.rule_modules.specs.Redelegations.{RedelegationLists, redelegations_of, is_transitive, begin_info, appended, redelegated}
 use Rattle.rule_modules.specs.Unbonding.{shares_to_unbond, unbonded_shares, unbonded_of, shares_unbonded}
-use Rattle.mod_entries.specs.Answers.{AnswersBoth}
-use Rattle.mod_entries.proofs.AnswerLemmas.{answers_no_memory}
+use Rattle.mod_entries.{specs.Answers.AnswersBoth, proofs.AnswerLemmas.answers_no_memory}
 use Rattle.mod_redelegation.specs.Calls.{leaving, joining, redelegation}
 
 -- ---- what a step that gave something tells

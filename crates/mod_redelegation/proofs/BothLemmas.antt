@@ -1,12 +1,8 @@
 -- Delegations and unbonding entries that are lent together: what a slash, and one behind another, leave of them.
 use Rattle.std.proofs.Common.{◌≡◌, ℕ, ◌+◌, refl}
-use Rattle.base_roles.specs.Ground.{IsInOrder}
-use Rattle.base_roles.specs.Hooks.{Tells}
-use Rattle.base_roles.specs.Lent.{IsBurned}
-use Rattle.base_roles.specs.Staked.{Staked, lists_of, bonded_tokens, other_tokens}
-use Rattle.base_roles.specs.StakeChanges.{HoldsStake}
-use Rattle.base_roles.specs.World.{View}
-use Rattle.base_roles.proofs.FallLemmas.{falls-burned, falls-beside, falls-then}
+use Rattle.base_roles.specs.{Ground.IsInOrder, Hooks.Tells, Lent.IsBurned}
+use Rattle.base_roles.specs.{Staked.{Staked, lists_of, bonded_tokens, other_tokens}, StakeChanges.HoldsStake}
+use Rattle.base_roles.{specs.World.View, proofs.FallLemmas.{falls-burned, falls-beside, falls-then}}
 use Rattle.base_roles.proofs.StakeLemmas.{holds-fallen, holds-part, holds-rest, holds-burned, stands-burned, still-then}
 use Rattle.mod_redelegation.specs.Scenes.{IsLentScene, IsSlashed, IsBothScene, AreBothSlashed}
 

@@ -1,29 +1,18 @@
 -- What a slash leaves of the ground once shares were unbonded at a target, and what went out burned: the hooks, the accounts
 -- and the validators.
-use Rattle.std.proofs.Common.{◌≡◌, ◌∙◌, ℕ, ◌+◌, ◌^◌, ◌<◌, ◌≤◌, Bool, true, false, cond, List, Some, None, refl, sym, ap, subst, arith}
-use Rattle.std.specs.Prelude.{◌&&◌, if◌then◌else◌, ◌==◌, ◌||◌, ◌-◌}
-use Rattle.std.specs.BTreeMap.{is_at}
-use Rattle.std.specs.Cmp.{eq_by_cmp_equiv}
-use Rattle.base_types.specs.declared.account.Account.{Account}
+use Rattle.std.proofs.Common.{◌≡◌, ◌∙◌, ℕ, ◌+◌, ◌^◌, ◌<◌, ◌≤◌, Bool, true, false, cond, List, Some, None, refl, sym, ap, subst, arith, ◌&&◌, if◌then◌else◌, ◌==◌, ◌||◌, ◌-◌}
+use Rattle.std.specs.{BTreeMap.is_at, Cmp.eq_by_cmp_equiv}
+use Rattle.base_types.specs.{declared.account.Account.Account, Orders.{account_cmp, denom_cmp}}
 use Rattle.base_types.specs.declared.account.Account.TheVariants as account
 use Rattle.base_types.specs.declared.account.Module.TheVariants as holder
-use Rattle.base_types.specs.Orders.{account_cmp, denom_cmp}
-use Rattle.base_roles.specs.declared.entities.Validator.{Validator}
-use Rattle.base_roles.specs.declared.params.Ctx.{Ctx}
-use Rattle.base_roles.specs.Ground.{AreInRange, IsInOrder, end_of_blocks}
-use Rattle.base_roles.specs.Holdings.{balance_of, supply_of, IsBacked}
-use Rattle.base_roles.specs.Hooks.{Tells, Stand, Keeps}
-use Rattle.base_roles.specs.Owing.{Lists}
-use Rattle.base_roles.specs.Orders.{same_addr}
+use Rattle.base_roles.specs.declared.{entities.Validator.Validator, params.Ctx.Ctx}
+use Rattle.base_roles.specs.{Ground.{AreInRange, IsInOrder, end_of_blocks}, Holdings.{balance_of, supply_of, IsBacked}}
+use Rattle.base_roles.specs.{Hooks.{Tells, Stand, Keeps}, Owing.Lists, Orders.same_addr}
 use Rattle.base_roles.specs.Staked.{Staked, validator_at, is_bonded, is_unbonded, bonded_tokens, other_tokens}
-use Rattle.base_roles.specs.StakeChanges.{HoldsStake, of_bond, IsUnbonded, validator_left}
-use Rattle.base_roles.specs.World.{View, burnt}
-use Rattle.base_roles.proofs.BurnLemmas.{burns_by_amounts, burns_lower_supplies}
-use Rattle.base_roles.proofs.HoldingLemmas.{denom_total}
-use Rattle.base_roles.proofs.HookLemmas.{Stand-same}
-use Rattle.base_roles.proofs.StakeLemmas.{holds-fallen}
-use Rattle.rule_modules.specs.Stakes.{pool_of}
-use Rattle.rule_modules.proofs.OrderLemmas.{same_is}
+use Rattle.base_roles.specs.{StakeChanges.{HoldsStake, of_bond, IsUnbonded, validator_left}, World.{View, burnt}}
+use Rattle.base_roles.proofs.{BurnLemmas.{burns_by_amounts, burns_lower_supplies}, HoldingLemmas.denom_total}
+use Rattle.base_roles.proofs.{HookLemmas.Stand-same, StakeLemmas.holds-fallen}
+use Rattle.rule_modules.{specs.Stakes.pool_of, proofs.OrderLemmas.same_is}
 use Rattle.mod_staking.proofs.GroundLemmas.{holds-kept}
 use Rattle.mod_redelegation.specs.Scenes.{IsSlashed}
 

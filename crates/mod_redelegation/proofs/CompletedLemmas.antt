@@ -1,18 +1,13 @@
 -- Completing key by key is completing all, in few steps.
-use Rattle.std.proofs.Common.{◌≡◌, ◌∙◌, ℕ, ◌+◌, ◌*◌, ◌<◌, ◌≤◌, Bool, true, false, cond, List, [], ◌∷◌, length, refl, sym, ap, arith}
-use Rattle.std.specs.Prelude.{not, nat_le, ◌||◌}
+use Rattle.std.proofs.Common.{◌≡◌, ◌∙◌, ℕ, ◌+◌, ◌*◌, ◌<◌, ◌≤◌, Bool, true, false, cond, List, [], ◌∷◌, length, refl, sym, ap, arith, not, nat_le, ◌||◌}
 use Rattle.std.proofs.lemmas.List.Elements.{recursion_from_All}
-use Rattle.base_roles.specs.declared.entities.RedelegationEntry.{RedelegationEntry}
-use Rattle.base_roles.specs.Orders.{triple_cmp}
+use Rattle.base_roles.specs.{declared.entities.RedelegationEntry.RedelegationEntry, Orders.triple_cmp}
 use Rattle.rule_modules.specs.EntrySlashes.{redelegation_made}
-use Rattle.rule_modules.specs.Redelegations.{RedelegationLists, redelegations_completed}
-use Rattle.rule_modules.specs.Unbondings.{key_then}
+use Rattle.rule_modules.specs.{Redelegations.{RedelegationLists, redelegations_completed}, Unbondings.key_then}
 use Rattle.mod_entries.specs.Lists.{list_at, with_list, unmatured, some_mature}
 use Rattle.mod_entries.specs.Walked.{Change, walked, stepped, keys_where, is_due, mature_entries}
-use Rattle.mod_entries.proofs.WalkedLemmas.{stepped-walked}
-use Rattle.mod_entries.proofs.DueLemmas.{due_few}
-use Rattle.mod_redelegation.specs.Calls.{AreSoundLists}
-use Rattle.mod_redelegation.proofs.OrderLemmas.{Key, triple_total}
+use Rattle.mod_entries.proofs.{WalkedLemmas.stepped-walked, DueLemmas.due_few}
+use Rattle.mod_redelegation.{specs.Calls.AreSoundLists, proofs.OrderLemmas.{Key, triple_total}}
 
 -- the mature entries of a key go; it runs over nothing
 abbrev pub left_at : ℕ → Change Key RedelegationEntry (Unit {0})

@@ -1,23 +1,17 @@
 -- Lists of entries by delegator, source and target: their order, and that they stay sound as they change.
-use Rattle.std.proofs.Common.{◌≡◌, ◌∙◌, ℕ, ◌+◌, ◌^◌, ◌<◌, ◌≤◌, Bool, true, false, cond, List, [], ◌∷◌, ◌++◌, length, Option, Some, None, refl, sym, subst, arith, inl, inr}
-use Rattle.std.specs.Prelude.{◌⊎◌, All, max, not, nat_le, filter, unwrap_or}
-use Rattle.std.specs.BTreeMap.{is_at}
-use Rattle.std.specs.List.Sorted.{IsStrictlySortedBy}
-use Rattle.std.specs.Map.{keys_of}
+use Rattle.std.proofs.Common.{◌≡◌, ◌∙◌, ℕ, ◌+◌, ◌^◌, ◌<◌, ◌≤◌, Bool, true, false, cond, List, [], ◌∷◌, ◌++◌, length, Option, Some, None, refl, sym, subst, arith, inl, inr, ◌⊎◌, All, max, not, nat_le, filter, unwrap_or}
+use Rattle.std.specs.{BTreeMap.is_at, List.Sorted.IsStrictlySortedBy, Map.keys_of}
 use Rattle.std.proofs.Math.Nat.{le-max_left, le-max_right}
 use Rattle.std.proofs.lemmas.List.Elements.{All-weaker, All-nil, All-cons, All-head, All-tail}
 use Rattle.base_types.proofs.MapLemmas.{ascend-taken, equal}
-use Rattle.base_roles.specs.declared.entities.RedelegationEntry.{RedelegationEntry}
-use Rattle.base_roles.specs.Entries.{at, with, without}
+use Rattle.base_roles.specs.{declared.entities.RedelegationEntry.RedelegationEntry, Entries.{at, with, without}}
 use Rattle.base_roles.specs.Orders.{triple_cmp}
 use Rattle.rule_modules.specs.EntrySlashes.{redelegation_made}
 use Rattle.rule_modules.specs.Redelegations.{RedelegationLists, redelegations_of, appended}
 use Rattle.rule_modules.specs.Sound.{RedelegationIsSound, RedelegationsAreSound}
-use Rattle.rule_modules.proofs.EntryLemmas.{at-put, at-taken, ascend-put, from_all, to_all}
-use Rattle.rule_modules.proofs.SoundLemmas.{either_some}
+use Rattle.rule_modules.proofs.{EntryLemmas.{at-put, at-taken, ascend-put, from_all, to_all}, SoundLemmas.either_some}
 use Rattle.mod_entries.specs.Lists.{list_at, with_list, unmatured, AreFew}
-use Rattle.mod_redelegation.specs.Calls.{AreSoundLists}
-use Rattle.mod_redelegation.proofs.OrderLemmas.{Key, triple_total, exact_key}
+use Rattle.mod_redelegation.{specs.Calls.AreSoundLists, proofs.OrderLemmas.{Key, triple_total, exact_key}}
 
 -- ---- what holds of all
 

@@ -1,22 +1,13 @@
 -- What one call and another leave of the ground, the hooks and the lent delegations; and a burn behind an unbonding.
-use Rattle.std.proofs.Common.{◌≡◌, ◌∙◌, ℕ, List, refl, ap}
-use Rattle.std.specs.Prelude.{Ok, Err, Result}
+use Rattle.std.proofs.Common.{◌≡◌, ◌∙◌, ℕ, List, refl, ap, Ok, Err, Result}
 use Rattle.base_decimals.specs.declared.over.Over.{Over}
-use Rattle.base_roles.specs.declared.bank.Ground.{Ground}
-use Rattle.base_roles.specs.declared.entities.Validator.{Validator}
-use Rattle.base_roles.specs.declared.faults.HookFault.{HookFault}
-use Rattle.base_roles.specs.declared.faults.HookFault.TheVariants as hook
-use Rattle.base_roles.specs.declared.params.Ctx.{Ctx}
-use Rattle.base_roles.specs.Answers.{Follows}
-use Rattle.base_roles.specs.Ground.{CanBeUndone}
-use Rattle.base_roles.specs.Lent.{Unbonds}
-use Rattle.base_roles.specs.Flow.{◌>>=◌}
+use Rattle.base_roles.specs.declared.{bank.Ground.Ground, entities.Validator.Validator, faults.HookFault.HookFault}
+use Rattle.base_roles.specs.{declared.params.Ctx.Ctx, Answers.Follows, Ground.CanBeUndone, Lent.Unbonds, Flow.{◌>>=◌}}
 use Rattle.base_roles.specs.World.{View, World, burnt, over_view}
-use Rattle.rule_modules.specs.Answers.{Leaves}
-use Rattle.rule_modules.specs.Stakes.{pool_of}
+use Rattle.base_roles.specs.declared.faults.HookFault.TheVariants as hook
+use Rattle.rule_modules.specs.{Answers.Leaves, Stakes.pool_of}
 use Rattle.mod_entries.proofs.UndoneLemmas.{undone-none, undone-then}
-use Rattle.mod_redelegation.specs.Scenes.{LentGoesOn, BothGoOn}
-use Rattle.mod_redelegation.specs.Slashed.{unbonded_burnt}
+use Rattle.mod_redelegation.specs.{Scenes.{LentGoesOn, BothGoOn}, Slashed.unbonded_burnt}
 
 module _ {B M H N D O : Type 0} (bank_marks : B → M) (most_steps : B → ℕ) (hook_marks : H → N) (lent_marks : D → O) where
   pub goes-none : (g : Ground B) (hooks : H) (d : D) → LentGoesOn bank_marks most_steps hook_marks lent_marks g g hooks hooks d d

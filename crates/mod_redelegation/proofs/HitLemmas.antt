@@ -1,14 +1,11 @@
 -- The slash of one entry: what it takes of the entries that follow, and then of the target's shares.
-use Rattle.std.proofs.Common.{◌≡◌, ◌∙◌, ℕ, List, refl, sym, ap}
-use Rattle.std.specs.Prelude.{Result, Ok, Err, ⊤}
+use Rattle.std.proofs.Common.{◌≡◌, ◌∙◌, ℕ, List, refl, sym, ap, Result, Ok, Err}
+use Rattle.std.specs.Prelude.{⊤}
 use Rattle.base_decimals.specs.declared.over.Over.{Over}
-use Rattle.base_roles.specs.declared.entities.RedelegationEntry.{RedelegationEntry}
-use Rattle.base_roles.specs.declared.faults.HookFault.{HookFault}
-use Rattle.base_roles.specs.declared.faults.HookFault.TheVariants as hook
-use Rattle.base_roles.specs.Lent.{Unbonds, Following, IsAsTold}
-use Rattle.base_roles.specs.Staked.{validator_at}
-use Rattle.base_roles.specs.Flow.{◌>>=◌}
+use Rattle.base_roles.specs.declared.{entities.RedelegationEntry.RedelegationEntry, faults.HookFault.HookFault}
+use Rattle.base_roles.specs.{Lent.{Unbonds, Following, IsAsTold}, Staked.validator_at, Flow.{◌>>=◌}}
 use Rattle.base_roles.specs.World.{View, World}
+use Rattle.base_roles.specs.declared.faults.HookFault.TheVariants as hook
 use Rattle.rule_modules.specs.Answers.{Leaves}
 use Rattle.rule_modules.specs.EntrySlashes.{part_of, part_left, burned_at_target, shares_hit, entry_hit}
 use Rattle.mod_redelegation.specs.Scenes.{LeavesBoth}

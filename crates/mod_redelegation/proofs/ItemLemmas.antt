@@ -1,21 +1,14 @@
 -- The items of entries: told by their keys, and with one more.
-use Rattle.std.proofs.Common.{◌≡◌, ℕ, List, refl, inl, inr}
-use Rattle.std.specs.Prelude.{◌⊎◌}
-use Rattle.std.specs.List.Sorted.{IsStrictlySortedBy}
-use Rattle.std.specs.Map.{keys_of}
-use Rattle.base_roles.specs.declared.entities.RedelegationEntry.{RedelegationEntry}
-use Rattle.base_roles.specs.declared.items.Item.{Item}
+use Rattle.std.proofs.Common.{◌≡◌, ℕ, List, refl, inl, inr, ◌⊎◌}
+use Rattle.std.specs.{List.Sorted.IsStrictlySortedBy, Map.keys_of}
+use Rattle.base_roles.specs.{declared.{entities.RedelegationEntry.RedelegationEntry, items.Item.Item}, Entries.with}
+use Rattle.base_roles.specs.{Items.IsAdded, Orders.triple_cmp}
 use Rattle.base_roles.specs.declared.items.Item.TheVariants as item
-use Rattle.base_roles.specs.Entries.{with}
-use Rattle.base_roles.specs.Items.{IsAdded}
-use Rattle.base_roles.specs.Orders.{triple_cmp}
 use Rattle.rule_modules.specs.Redelegations.{RedelegationLists}
-use Rattle.base_records.specs.Items.{AnyValue, IsRowed}
-use Rattle.base_records.proofs.RowLemmas.{row-added}
+use Rattle.base_records.{specs.Items.{AnyValue, IsRowed}, proofs.RowLemmas.row-added}
 use Rattle.base_records.proofs.RowedLemmas.{IsOfKind, IsOfOther, rowed}
 use Rattle.mod_redelegation.specs.Items.{items_of, redelegation_item, redelegation_gone, redelegation_entry, same_entries}
-use Rattle.mod_redelegation.proofs.OrderLemmas.{triple_total, exact_key}
-use Rattle.mod_redelegation.proofs.SameLemmas.{entries-yes, entries-no}
+use Rattle.mod_redelegation.proofs.{OrderLemmas.{triple_total, exact_key}, SameLemmas.{entries-yes, entries-no}}
 
 of_kind_or_not : (i : Item) → IsOfKind AnyValue redelegation_item i ⊎ IsOfOther redelegation_entry i
 of_kind_or_not (item.Redelegation d s t es) = inl (record { key = (d, s, t); value = es; made = refl; fits = tt })

@@ -1,21 +1,16 @@
 -- What stands once an amount was unbonded that is then delegated: how much it is, the accounts, and the target.
-use Rattle.std.proofs.Common.{◌≡◌, ◌∙◌, ℕ, ◌+◌, ◌-◌, ◌^◌, ◌<◌, ◌≤◌, ◌==◌, Bool, true, false, cond, List, Option, Some, refl, sym, ap, subst, arith}
-use Rattle.std.specs.Prelude.{Ok, Err, Result, nat_le, if◌then◌else◌, ◌||◌, unwrap_or}
+use Rattle.std.proofs.Common.{◌≡◌, ◌∙◌, ℕ, ◌+◌, ◌-◌, ◌^◌, ◌<◌, ◌≤◌, ◌==◌, Bool, true, false, cond, List, Option, Some, refl, sym, ap, subst, arith, Ok, Err, Result, nat_le, if◌then◌else◌, ◌||◌, unwrap_or}
 use Rattle.std.proofs.lemmas.Bool.Decides.{nat_tests}
 use Rattle.base_decimals.specs.declared.over.Over.{Over}
 use Rattle.base_types.specs.declared.account.Account.TheVariants as account
 use Rattle.base_types.specs.declared.account.Module.TheVariants as holder
 use Rattle.base_shares.specs.Shares.{amount_out}
-use Rattle.base_roles.specs.declared.entities.Validator.{Validator}
-use Rattle.base_roles.specs.Answers.{Follows}
-use Rattle.base_roles.specs.Entries.{number_at}
-use Rattle.base_roles.specs.Holdings.{balance_of}
-use Rattle.base_roles.specs.Hooks.{Keeps}
-use Rattle.base_roles.specs.Log as log
-use Rattle.base_roles.specs.Orders.{pair_cmp, same_addr}
+use Rattle.base_roles.specs.{declared.entities.Validator.Validator, Answers.Follows, Entries.number_at}
+use Rattle.base_roles.specs.{Holdings.balance_of, Hooks.Keeps, Orders.{pair_cmp, same_addr}}
 use Rattle.base_roles.specs.Staked.{Staked, validator_at, delegation, put_validator, is_bonded, bonded_tokens, other_tokens}
 use Rattle.base_roles.specs.StakeChanges.{HoldsStake, IsUnbonded, validator_left}
 use Rattle.base_roles.specs.World.{View, Hook, Told, World, call, modifying, over_mine, logged}
+use Rattle.base_roles.specs.Log as log
 use Rattle.rule_modules.specs.Delegating.{pool}
 use Rattle.rule_modules.specs.Unbonding.{falls_below_minimum, put_in_jail, left_standing, removed_if_empty, unbonded_of, unbonded_shares, shares_unbonded}
 use Rattle.rule_modules.proofs.SoundLemmas.{to_points, held_within, shares_at}

@@ -1,23 +1,17 @@
 -- The log is only an output of delegating: behind any log the same is answered and left. And what a redelegation answers whose
 -- steps are answered.
-use Rattle.std.proofs.Common.{◌≡◌, ◌∙◌, ℕ, ◌+◌, List, Option, Some, refl, sym, ap, subst}
-use Rattle.std.specs.Prelude.{Ok, Err, Result, unwrap_or, is_none, ⊤}
+use Rattle.std.proofs.Common.{◌≡◌, ◌∙◌, ℕ, ◌+◌, List, Option, Some, refl, sym, ap, subst, Ok, Err, Result, unwrap_or, is_none}
+use Rattle.std.specs.Prelude.{⊤}
 use Rattle.base_decimals.specs.declared.over.Over.{Over}
-use Rattle.base_roles.specs.declared.entities.Validator.{Validator}
-use Rattle.base_roles.specs.declared.faults.MessageFault.{MessageFault}
-use Rattle.base_roles.specs.declared.refusal.Refusal.{Refusal}
-use Rattle.base_roles.specs.declared.refusal.Refusal.TheVariants.{Overflow}
-use Rattle.base_roles.specs.Answers.{Follows, AnswersAs, RefusesAs}
-use Rattle.base_roles.specs.Log.{Log}
-use Rattle.base_roles.specs.Staked.{Staked, validator_at, delegation, put_validator}
-use Rattle.base_roles.specs.Flow.{◌>>=◌, stopping}
+use Rattle.base_roles.specs.declared.{entities.Validator.Validator, faults.MessageFault.MessageFault}
+use Rattle.base_roles.specs.declared.refusal.Refusal.{Refusal, TheVariants.Overflow}
+use Rattle.base_roles.specs.{Answers.{Follows, AnswersAs, RefusesAs}, Log.Log}
+use Rattle.base_roles.specs.{Staked.{Staked, validator_at, delegation, put_validator}, Flow.{◌>>=◌, stopping}}
 use Rattle.base_roles.specs.World.{View, Hook, Told, gives, exceeds, World, hooked, call, modified, over_view, over_mine}
 use Rattle.rule_modules.specs.Delegating.{Origin, pool, paid_in, hook_before, shares_given, delegated}
-use Rattle.rule_modules.specs.Redelegations.{RedelegationLists, begin_info, appended}
-use Rattle.rule_modules.specs.Stakes.{put_delegation}
+use Rattle.rule_modules.specs.{Redelegations.{RedelegationLists, begin_info, appended}, Stakes.put_delegation}
 use Rattle.rule_modules.specs.Unbonding.{shares_unbonded}
-use Rattle.mod_staking.specs.Calls.{over, behind_log}
-use Rattle.mod_staking.proofs.LogLemmas.{DifferInLog}
+use Rattle.mod_staking.{specs.Calls.{over, behind_log}, proofs.LogLemmas.DifferInLog}
 use Rattle.mod_entries.specs.Answers.{AnswersBoth}
 use Rattle.mod_redelegation.proofs.AskedLemmas.{redelegated_from, moved_at, moved_to, entry_made, answers_stop}
 

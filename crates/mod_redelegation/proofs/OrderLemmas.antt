@@ -1,9 +1,6 @@
 -- The order of keys of three addresses: it is total, tells all keys apart, and is that in which tables keep them.
-use Rattle.std.proofs.Common.{◌≡◌, ◌∙◌, ℕ, List, refl}
-use Rattle.std.specs.declared.cmp.Ordering.{Ordering}
-use Rattle.std.specs.declared.cmp.Ordering.TheVariants.{Less, Equal, Greater}
-use Rattle.std.specs.Cmp.{IsTotalOrder, on_total, then_total}
-use Rattle.std.specs.Ordering.{ordering_then}
+use Rattle.std.proofs.Common.{◌≡◌, ◌∙◌, ℕ, List, refl, Ordering, Less, Equal, Greater}
+use Rattle.std.specs.{Cmp.{IsTotalOrder, on_total, then_total}, Ordering.ordering_then}
 use Rattle.base_types.specs.Orders.{addr_cmp}
 use Rattle.base_roles.specs.Orders.{triple_cmp}
 use Rattle.rule_modules.proofs.OrderLemmas.{addr_total}

@@ -1,25 +1,14 @@
 -- The entries of one delegator, from its least key on, end before another delegator's.
-use Rattle.std.proofs.Common.{◌≡◌, ◌∙◌, ℕ, Bool, true, false, cond, List, [], ◌∷◌, Option, Some, None, refl, sym, ap, subst}
-use Rattle.std.specs.Prelude.{◌&&◌, ◌||◌, All, filter}
-use Rattle.std.specs.declared.cmp.Ordering.{Ordering}
-use Rattle.std.specs.declared.cmp.Ordering.TheVariants.{Less, Greater}
-use Rattle.std.specs.Ordering.{is_lt, is_le, ordering_then}
-use Rattle.std.specs.List.{AllByRecursion}
-use Rattle.std.specs.List.Sorted.{IsStrictlySortedBy}
-use Rattle.std.specs.Map.{keys_of}
-use Rattle.std.proofs.lemmas.List.Elements.{recursion_from_All, All-from_recursion}
-use Rattle.std.proofs.lemmas.Map.Lookups.{exact_bytes}
+use Rattle.std.proofs.Common.{◌≡◌, ◌∙◌, ℕ, Bool, true, false, cond, List, [], ◌∷◌, Option, Some, None, refl, sym, ap, subst, ◌&&◌, ◌||◌, All, filter, Ordering, Less, Greater, is_lt, is_le}
+use Rattle.std.specs.{Ordering.ordering_then, List.{AllByRecursion, Sorted.IsStrictlySortedBy}, Map.keys_of}
+use Rattle.std.proofs.lemmas.{List.Elements.{recursion_from_All, All-from_recursion}, Map.Lookups.exact_bytes}
 use Rattle.base_table.specs.Tabled.{first_of, entry_above, entry_from}
 use Rattle.base_types.specs.Orders.{addr_cmp}
-use Rattle.base_roles.specs.declared.entities.RedelegationEntry.{RedelegationEntry}
-use Rattle.base_roles.specs.Orders.{triple_cmp, same_addr}
+use Rattle.base_roles.specs.{declared.entities.RedelegationEntry.RedelegationEntry, Orders.{triple_cmp, same_addr}}
 use Rattle.rule_modules.specs.Redelegations.{RedelegationLists, is_transitive}
-use Rattle.mod_entries.specs.Least.{le_both, least_addr, least_is}
-use Rattle.mod_entries.proofs.CountLemmas.{all-passes}
-use Rattle.mod_entries.proofs.DueLemmas.{ascend-where}
-use Rattle.mod_entries.proofs.SideLemmas.{if_of_addr, same_equal, side-first}
-use Rattle.mod_redelegation.specs.Own.{are_addrs, own_entries, own_entry}
-use Rattle.mod_redelegation.proofs.OrderLemmas.{Key}
+use Rattle.mod_entries.{specs.Least.{le_both, least_addr, least_is}, proofs.CountLemmas.all-passes}
+use Rattle.mod_entries.proofs.{DueLemmas.ascend-where, SideLemmas.{if_of_addr, same_equal, side-first}}
+use Rattle.mod_redelegation.{specs.Own.{are_addrs, own_entries, own_entry}, proofs.OrderLemmas.Key}
 
 -- ---- the delegator's own
 

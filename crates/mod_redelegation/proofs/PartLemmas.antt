@@ -1,15 +1,11 @@
 -- The part of a delegation that a slash takes.
-use Rattle.std.proofs.Common.{◌≡◌, ◌∙◌, sym, ap, ℕ, ◌*◌, ◌^◌, ◌<◌, ◌≤◌, Bool, true, false, cond, List, Option, Some, None, refl, arith}
-use Rattle.std.specs.Prelude.{◌≢◌, ◌-◌, ◌==◌, Ok, Err, Result, min, nat_lt, unwrap_or}
-use Rattle.std.proofs.lemmas.Bool.Decides.{nat_tests}
-use Rattle.std.proofs.lemmas.Nat.{mul-le}
-use Rattle.base_decimals.specs.declared.over.Over.{Over}
-use Rattle.base_decimals.specs.Decimals.{mul_even_of, mul_int_quo_int_of, quotient_over}
+use Rattle.std.proofs.Common.{◌≡◌, ◌∙◌, sym, ap, ℕ, ◌*◌, ◌^◌, ◌<◌, ◌≤◌, Bool, true, false, cond, List, Option, Some, None, refl, arith, ◌≢◌, ◌-◌, ◌==◌, Ok, Err, Result, min, nat_lt, unwrap_or}
+use Rattle.std.proofs.lemmas.{Bool.Decides.nat_tests, Nat.mul-le}
+use Rattle.base_decimals.specs.{declared.over.Over.Over, Decimals.{mul_even_of, mul_int_quo_int_of, quotient_over}}
 use Rattle.base_decimals.specs.Rounding.{cut, even}
 use Rattle.base_shares.proofs.Roundings.{cut_most, even_most}
-use Rattle.base_roles.specs.Staked.{Staked, delegation}
+use Rattle.base_roles.specs.{Staked.{Staked, delegation}, StakeChanges.HasShares}
 use Rattle.rule_modules.specs.EntrySlashes.{part_left}
-use Rattle.base_roles.specs.StakeChanges.{HasShares}
 
 -- a factor of at most one of a decimal is no more than it
 even_within : (a b : ℕ) → a ≤ 10 ^ 18 → even (a * b) (10 ^ 18) ≤ b

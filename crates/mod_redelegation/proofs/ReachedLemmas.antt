@@ -1,29 +1,17 @@
 -- A rule that is followed step by step: the world that its steps have reached, and the slash of entries as such steps.
-use Rattle.std.proofs.Common.{◌≡◌, ◌∙◌, ℕ, Bool, true, false, cond, List, [], ◌∷◌, refl, sym, ap, subst, inl, inr}
-use Rattle.std.specs.Prelude.{Ok, Err, Result, map, filter, ⊤}
-use Rattle.std.specs.List.{AllByRecursion}
-use Rattle.std.specs.List.Sorted.{IsStrictlySortedBy}
-use Rattle.std.specs.Map.{keys_of}
+use Rattle.std.proofs.Common.{◌≡◌, ◌∙◌, ℕ, Bool, true, false, cond, List, [], ◌∷◌, refl, sym, ap, subst, inl, inr, Ok, Err, Result, map, filter}
+use Rattle.std.specs.{Prelude.⊤, List.{AllByRecursion, Sorted.IsStrictlySortedBy}, Map.keys_of}
 use Rattle.base_decimals.specs.declared.over.Over.{Over}
-use Rattle.base_roles.specs.declared.entities.RedelegationEntry.{RedelegationEntry}
-use Rattle.base_roles.specs.declared.faults.HookFault.{HookFault}
+use Rattle.base_roles.specs.declared.{entities.RedelegationEntry.RedelegationEntry, faults.HookFault.HookFault}
+use Rattle.base_roles.specs.{Answers.WantsMemory, Lent.{Unbonds, Following, FollowsLent}, Log.Log}
+use Rattle.base_roles.specs.{Orders.{triple_cmp, same_addr}, Flow.{◌>>=◌}, World.{View, World}}
 use Rattle.base_roles.specs.declared.faults.HookFault.TheVariants as hook
-use Rattle.base_roles.specs.Answers.{WantsMemory}
-use Rattle.base_roles.specs.Lent.{Unbonds, Following, FollowsLent}
-use Rattle.base_roles.specs.Log.{Log}
-use Rattle.base_roles.specs.Orders.{triple_cmp, same_addr}
-use Rattle.base_roles.specs.Flow.{◌>>=◌}
-use Rattle.base_roles.specs.World.{View, World}
 use Rattle.base_records.proofs.MemberLemmas.{Member}
 use Rattle.rule_modules.specs.EntrySlashes.{is_hit, entry_hit, targets_slashed, sources_slashed}
 use Rattle.rule_modules.specs.Redelegations.{RedelegationLists}
 use Rattle.mod_staking.specs.Calls.{behind_log}
-use Rattle.mod_entries.specs.Lists.{list_at}
-use Rattle.mod_entries.specs.Slashed.{is_from}
-use Rattle.mod_entries.specs.Walked.{keys_where}
-use Rattle.mod_entries.proofs.DueLemmas.{found_list}
-use Rattle.mod_redelegation.specs.Scenes.{LeavesBoth}
-use Rattle.mod_redelegation.specs.Slashed.{entry_slashed, keys_slashed}
+use Rattle.mod_entries.{specs.{Lists.list_at, Slashed.is_from, Walked.keys_where}, proofs.DueLemmas.found_list}
+use Rattle.mod_redelegation.specs.{Scenes.LeavesBoth, Slashed.{entry_slashed, keys_slashed}}
 use Rattle.mod_redelegation.proofs.OrderLemmas.{Key, triple_total, exact_key}
 
 -- ---- steps

@@ -1,9 +1,7 @@
 -- What a call leaves whose first step went well, behind which another went well or stopped.
-use Rattle.std.proofs.Common.{◌≡◌, ◌∙◌, ℕ, true, false, refl}
-use Rattle.std.specs.Prelude.{Result, Ok, Err}
+use Rattle.std.proofs.Common.{◌≡◌, ◌∙◌, ℕ, true, false, refl, Result, Ok, Err}
 use Rattle.base_roles.specs.declared.bank.Ground.{Ground}
-use Rattle.mod_staking.specs.Registered.{Registered}
-use Rattle.mod_staking.specs.Scenes.{GoesOn}
+use Rattle.mod_staking.specs.{Registered.Registered, Scenes.GoesOn}
 use Rattle.mod_entries.proofs.UndoneLemmas.{undone-then}
 
 module _ {B M H N : Type 0} (bank_marks : B → M) (most_steps : B → ℕ) (marks_of : H → N) (g g1 g2 : Ground B) (hooks hooks1 hooks2 : H) (s s1 s2 : Registered) where

@@ -1,10 +1,7 @@
 -- The target's validator, where shares are to be unbonded there, and what the rule does with it.
-use Rattle.std.proofs.Common.{◌≡◌, ℕ, ◌<◌, Bool, true, false, cond, List, Option, Some, None, refl, sym, ap, subst, arith}
-use Rattle.std.specs.Prelude.{◌==◌, Ok, IfSome}
+use Rattle.std.proofs.Common.{◌≡◌, ℕ, ◌<◌, Bool, true, false, cond, List, Option, Some, None, refl, sym, ap, subst, arith, ◌==◌, Ok, IfSome}
 use Rattle.std.proofs.lemmas.Bool.Decides.{nat_tests}
-use Rattle.base_roles.specs.declared.entities.Validator.{Validator}
-use Rattle.base_roles.specs.Lent.{Unbonds}
-use Rattle.base_roles.specs.World.{World}
+use Rattle.base_roles.specs.{declared.entities.Validator.Validator, Lent.Unbonds, World.World}
 use Rattle.rule_modules.specs.EntrySlashes.{burned_at_target}
 use Rattle.mod_redelegation.specs.Slashed.{unbonded_burnt}
 

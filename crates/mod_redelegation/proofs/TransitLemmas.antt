@@ -1,11 +1,8 @@
 -- Whether entries of a delegator lead to an operator, as a walk finds it.
-use Rattle.std.proofs.Common.{◌≡◌, ◌∙◌, ℕ, Bool, true, false, List, Option, Some, None, sym, ap}
-use Rattle.std.specs.Prelude.{◌&&◌, ◌||◌}
-use Rattle.std.specs.List.Sorted.{IsStrictlySortedBy}
-use Rattle.std.specs.Map.{keys_of}
+use Rattle.std.proofs.Common.{◌≡◌, ◌∙◌, ℕ, Bool, true, false, List, Option, Some, None, sym, ap, ◌&&◌, ◌||◌}
+use Rattle.std.specs.{List.Sorted.IsStrictlySortedBy, Map.keys_of}
 use Rattle.base_table.specs.Tabled.{entry_above}
-use Rattle.base_roles.specs.declared.entities.RedelegationEntry.{RedelegationEntry}
-use Rattle.base_roles.specs.Orders.{triple_cmp, same_addr}
+use Rattle.base_roles.specs.{declared.entities.RedelegationEntry.RedelegationEntry, Orders.{triple_cmp, same_addr}}
 use Rattle.base_records.proofs.WalkLemmas.{left_of, walk-end}
 use Rattle.rule_modules.specs.Redelegations.{RedelegationLists, is_transitive}
 use Rattle.mod_entries.proofs.CountLemmas.{left_is}

@@ -1,23 +1,15 @@
 -- What the calls put, as the records that follow from it; and that the numbers of a record fit.
-use Rattle.std.proofs.Common.{Bor, ◌≡◌, ◌∙◌, ◌⊎◌, inl, inr, ℕ, ◌+◌, ◌/◌, ◌%◌, ◌<◌, ◌≤◌, max, Bool, true, false, List, [], ◌∷◌, length, take, get_or, Option, Some, None, refl, sym, ap, subst, arith}
-use Rattle.std.specs.Prelude.{◌&&◌, nat_lt, option_map, IsSome, is_some}
-use Rattle.std.specs.Option.{option_copied}
-use Rattle.std.proofs.lemmas.List.{length-take, take_all}
+use Rattle.std.proofs.Common.{Bor, ◌≡◌, ◌∙◌, ◌⊎◌, inl, inr, ℕ, ◌+◌, ◌/◌, ◌%◌, ◌<◌, ◌≤◌, max, Bool, true, false, List, [], ◌∷◌, length, take, get_or, Option, Some, None, refl, sym, ap, subst, arith, ◌&&◌, nat_lt, option_map, IsSome, is_some, option_copied, length-take, take_all}
 use Rattle.base_types.specs.Orders.{cons_cmp}
-use Rattle.base_roles.specs.declared.entities.SigningInfo.{SigningInfo}
-use Rattle.base_roles.specs.declared.params.Ctx.{Ctx}
-use Rattle.base_roles.specs.Entries.{at, with}
+use Rattle.base_roles.specs.{declared.{entities.SigningInfo.SigningInfo, params.Ctx.Ctx}, Entries.{at, with}}
 use Rattle.base_roles.specs.Lent.{IsBanned}
 use Rattle.rule_modules.specs.Window.{Signing, Window, IsRing, info_of, signing_of, reset_at}
-use Rattle.rule_modules.specs.Amounts.{count_where, seconds}
-use Rattle.rule_modules.proofs.TieLemmas.{ring_counts_misses}
+use Rattle.rule_modules.{specs.Amounts.{count_where, seconds}, proofs.TieLemmas.ring_counts_misses}
 use Rattle.mod_signing.specs.declared.entry.Entry.{Entry}
 use Rattle.mod_signing.specs.Calls.{HasEntry, IsRow, begun_entry, told_of_entry, told_of_signed, one_more, ring_at, ring_if}
-use Rattle.mod_signing.specs.Kept.{Signed, Kept, signed_of, with_signed}
-use Rattle.mod_signing.specs.Rings.{is_set, ring_with}
+use Rattle.mod_signing.specs.{Kept.{Signed, Kept, signed_of, with_signed}, Rings.{is_set, ring_with}}
 use Rattle.mod_signing.specs.Stands.{KeepsSignings, KeepsVotes, IsKept, bans_if, bans_kept, infos_of}
-use Rattle.mod_signing.proofs.DownLemmas.{reset_is}
-use Rattle.mod_signing.proofs.InfoLemmas.{few_set, info_at, infos_with, some_set, was_set}
+use Rattle.mod_signing.proofs.{DownLemmas.reset_is, InfoLemmas.{few_set, info_at, infos_with, some_set, was_set}}
 use Rattle.mod_signing.proofs.RingLemmas.{place_within_ring, ring_length, with_length_behind, with_length_within}
 use Rattle.mod_signing.proofs.StandLemmas.{begun_signed, keeps_with, plain_at, stands_at, stands_reset, stands_voted}
 use Rattle.mod_signing.proofs.UptoLemmas.{at_end}

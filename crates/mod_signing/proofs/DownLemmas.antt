@@ -1,15 +1,11 @@
 -- Downtime by an info, and the numbers that it is told from.
-use Rattle.std.proofs.Common.{◌≡◌, ℕ, ◌+◌, ◌-◌, ◌*◌, ◌^◌, ◌<◌, ◌≤◌, Bool, true, false, refl, sym, ap, mul-le-mul, ◌∙◌, arith}
-use Rattle.std.specs.Prelude.{◌&&◌, not, nat_lt}
+use Rattle.std.proofs.Common.{◌≡◌, ℕ, ◌+◌, ◌-◌, ◌*◌, ◌^◌, ◌<◌, ◌≤◌, Bool, true, false, refl, sym, ap, mul-le-mul, ◌∙◌, arith, ◌&&◌, not, nat_lt}
 use Rattle.std.proofs.lemmas.Bool.Decides.{nat_tests}
-use Rattle.base_roles.specs.declared.entities.SigningInfo.{SigningInfo}
-use Rattle.base_roles.specs.declared.entities.Validator.{Validator}
-use Rattle.base_types.specs.declared.status.BondStatus.{BondStatus}
-use Rattle.base_roles.specs.declared.params.Ctx.{Ctx}
+use Rattle.base_roles.specs.declared.{entities.{SigningInfo.SigningInfo, Validator.Validator}, params.Ctx.Ctx}
 use Rattle.base_roles.specs.Staked.{is_unbonded}
+use Rattle.base_types.specs.declared.status.BondStatus.{BondStatus}
 use Rattle.rule_modules.specs.Window.{Signing, allowed_of, info_of, is_downtime, reset_at}
-use Rattle.mod_signing.specs.Calls.{down_of}
-use Rattle.mod_signing.proofs.RingLemmas.{misses_reset}
+use Rattle.mod_signing.{specs.Calls.down_of, proofs.RingLemmas.misses_reset}
 
 -- a height above start + window, without the sum
 pub later_than : (start window height : ℕ) → nat_lt start (height - window) ≡ nat_lt (start + window) height

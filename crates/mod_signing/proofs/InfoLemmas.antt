@@ -1,18 +1,10 @@
 -- The infos of records, once one changed; and how many places of a ring are set.
-use Rattle.std.proofs.Common.{◌≡◌, ℕ, ◌/◌, ◌%◌, ◌<◌, ◌≤◌, Bool, true, false, cond, List, [], ◌∷◌, length, get_or, Some, refl, sym, ap, arith}
-use Rattle.std.specs.Prelude.{zero, suc, ◌&&◌, nat_lt, option_map, slice_get}
-use Rattle.std.proofs.lemmas.Bool.Decides.{nat_tests}
-use Rattle.std.specs.declared.cmp.Ordering.{Ordering}
-use Rattle.std.specs.declared.cmp.Ordering.TheVariants.{Less, Equal, Greater}
-use Rattle.std.specs.BTreeMap.{insert_entry, is_at}
-use Rattle.std.specs.Ordering.{match_ordering}
+use Rattle.std.proofs.Common.{◌≡◌, ℕ, ◌/◌, ◌%◌, ◌<◌, ◌≤◌, Bool, true, false, cond, List, [], ◌∷◌, length, get_or, Some, refl, sym, ap, arith, zero, suc, ◌&&◌, nat_lt, option_map, slice_get, Ordering, Less, Equal, Greater}
+use Rattle.std.{proofs.lemmas.Bool.Decides.nat_tests, specs.{BTreeMap.{insert_entry, is_at}, Ordering.match_ordering}}
 use Rattle.base_types.specs.Orders.{cons_cmp}
 use Rattle.base_roles.specs.Entries.{at, with}
 use Rattle.rule_modules.specs.Amounts.{count_where}
-use Rattle.mod_signing.specs.Calls.{IsRow}
-use Rattle.mod_signing.specs.Rings.{is_set}
-use Rattle.mod_signing.specs.Kept.{Signed, Kept, signed_of, with_signed}
-use Rattle.mod_signing.specs.Stands.{infos_of}
+use Rattle.mod_signing.specs.{Calls.IsRow, Rings.is_set, Kept.{Signed, Kept, signed_of, with_signed}, Stands.infos_of}
 
 -- the info of an address is that of its record
 pub info_at : (kept : Kept) (cons : List ℕ) → at cons_cmp (infos_of kept) cons ≡ option_map (λ s. s.info) (signed_of kept cons)

@@ -1,26 +1,18 @@
 -- Signing records as items: how they are told apart, one more, and the changes since the last settling.
-use Rattle.std.proofs.Common.{◌≡◌, ◌∙◌, ℕ, Bool, true, false, List, [], ◌∷◌, refl, sym, ap, inl, inr}
-use Rattle.std.specs.Prelude.{◌⊎◌, ◌&&◌, ◌==◌, ◌≢◌, is_some, length, Result, Ok, Err, OnOk, OnErr}
-use Rattle.std.specs.BTreeMap.{insert_entry}
-use Rattle.std.specs.List.Sorted.{IsStrictlySortedBy}
-use Rattle.std.specs.Map.{keys_of}
+use Rattle.std.proofs.Common.{◌≡◌, ◌∙◌, ℕ, Bool, true, false, List, [], ◌∷◌, refl, sym, ap, inl, inr, ◌⊎◌, ◌&&◌, ◌==◌, ◌≢◌, is_some, length, Result, Ok, Err, OnOk, OnErr}
+use Rattle.std.specs.{BTreeMap.insert_entry, List.Sorted.IsStrictlySortedBy, Map.keys_of}
 use Rattle.std.proofs.lemmas.Map.Lookups.{exact_bytes}
 use Rattle.base_types.specs.Orders.{cons_cmp}
-use Rattle.base_roles.specs.declared.entities.SigningInfo.{SigningInfo}
-use Rattle.base_roles.specs.declared.items.Item.{Item}
+use Rattle.base_roles.specs.{declared.{entities.SigningInfo.SigningInfo, items.Item.Item}, Items.{IsOnce, IsAdded}}
 use Rattle.base_roles.specs.declared.items.Item.TheVariants as item
-use Rattle.base_roles.specs.Items.{IsOnce, IsAdded}
-use Rattle.base_records.specs.Kinds.{AreOf, IsByKey}
-use Rattle.base_records.specs.Items.{AnyValue, IsRowed}
+use Rattle.base_records.specs.{Kinds.{AreOf, IsByKey}, Items.{AnyValue, IsRowed}}
 use Rattle.base_records.proofs.RowedLemmas.{IsOfKind, IsOfOther, rowed}
 use Rattle.base_records.proofs.RowLemmas.{row-added, rows-of-kind, rows-told-once}
 use Rattle.base_records.proofs.SameLemmas.{both, number, number_itself}
 use Rattle.mod_staking.specs.Items.{same_flag}
-use Rattle.mod_signing.specs.Kept.{Signed, Kept}
-use Rattle.mod_signing.specs.Rings.{Rows, place_set, ring_of}
+use Rattle.mod_signing.specs.{Kept.{Signed, Kept}, Rings.{Rows, place_set, ring_of}}
 use Rattle.mod_signing.specs.Items.{items_of, is_signing, same_info, same_ring, same_signed, signing_entry, signing_gone, signing_item}
-use Rattle.mod_signing.proofs.TableLemmas.{cons_total}
-use Rattle.mod_signing.proofs.UptoLemmas.{first_length}
+use Rattle.mod_signing.proofs.{TableLemmas.cons_total, UptoLemmas.first_length}
 
 -- ---- what is said of an answer
 

@@ -1,16 +1,11 @@
 -- What loops over places keep: of a ring that is compared, counted, or written row by row.
-use Rattle.std.proofs.Common.{◌≡◌, ◌∙◌, ◌⊎◌, inl, inr, ℕ, ◌+◌, ◌-◌, ◌*◌, ◌/◌, ◌%◌, ◌<◌, ◌≤◌, Bool, true, false, cond, List, [], ◌∷◌, length, take, min, get_or, Option, Some, None, refl, sym, ap, subst, below_more, div-add-mod', mod-lt, arith}
-use Rattle.std.specs.Prelude.{zero, suc, ◌≢◌, slice_get, unwrap_or}
-use Rattle.std.specs.BTreeMap.{insert_entry}
-use Rattle.std.proofs.lemmas.List.{ext_get_or, take_more}
-use Rattle.std.proofs.lemmas.Nat.{mod-mul-add}
+use Rattle.std.proofs.Common.{◌≡◌, ◌∙◌, ◌⊎◌, inl, inr, ℕ, ◌+◌, ◌-◌, ◌*◌, ◌/◌, ◌%◌, ◌<◌, ◌≤◌, Bool, true, false, cond, List, [], ◌∷◌, length, take, min, get_or, Option, Some, None, refl, sym, ap, subst, below_more, div-add-mod', mod-lt, arith, zero, suc, ◌≢◌, slice_get, unwrap_or, ext_get_or}
+use Rattle.std.{specs.BTreeMap.insert_entry, proofs.lemmas.{List.take_more, Nat.mod-mul-add}}
 use Rattle.base_table.specs.Tabled.{Tabled, TellsSettled, value_at}
 use Rattle.base_roles.specs.Entries.{number_at}
 use Rattle.rule_modules.specs.Amounts.{count_where}
-use Rattle.mod_signing.specs.Rings.{Rows, firsts, is_set, place_set, ring_of, row_cmp}
-use Rattle.mod_signing.proofs.InfoLemmas.{got}
-use Rattle.mod_signing.proofs.RingLemmas.{count_of_join}
-use Rattle.mod_signing.proofs.TableLemmas.{other_row, same_row}
+use Rattle.mod_signing.{specs.Rings.{Rows, firsts, is_set, place_set, ring_of, row_cmp}, proofs.InfoLemmas.got}
+use Rattle.mod_signing.proofs.{RingLemmas.count_of_join, TableLemmas.{other_row, same_row}}
 use Rattle.mod_signing.proofs.UptoLemmas.{first_at, first_length, first_same}
 
 some_is : {A : Type 0} (x y : A) → Some x ≡ Some y → x ≡ y

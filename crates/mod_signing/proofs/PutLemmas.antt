@@ -1,15 +1,11 @@
 -- Two tables in which an info was put, or a vote, or a whole ring, as the window is seen.
-use Rattle.std.proofs.Common.{◌≡◌, ◌∙◌, ◌⊎◌, inl, inr, ℕ, ◌+◌, ◌/◌, ◌%◌, ◌<◌, ◌≤◌, Bool, List, length, take, refl, sym, ap, subst, arith}
-use Rattle.std.specs.Prelude.{◌≢◌}
-use Rattle.std.specs.BTreeMap.{insert_entry}
-use Rattle.std.specs.List.Sorted.{IsStrictlySortedBy}
-use Rattle.std.specs.Map.{keys_of}
+use Rattle.std.proofs.Common.{◌≡◌, ◌∙◌, ◌⊎◌, inl, inr, ℕ, ◌+◌, ◌/◌, ◌%◌, ◌<◌, ◌≤◌, Bool, List, length, take, refl, sym, ap, subst, arith, ◌≢◌}
+use Rattle.std.specs.{BTreeMap.insert_entry, List.Sorted.IsStrictlySortedBy, Map.keys_of}
 use Rattle.base_types.specs.Orders.{cons_cmp}
 use Rattle.base_table.specs.Tabled.{Tabled, with_value}
 use Rattle.base_roles.specs.Entries.{at}
 use Rattle.base_records.specs.Marks.{side_by_side}
-use Rattle.mod_signing.specs.declared.entry.Entry.{Entry}
-use Rattle.mod_signing.specs.Calls.{IsRow, ring_at}
+use Rattle.mod_signing.specs.{declared.entry.Entry.Entry, Calls.{IsRow, ring_at}}
 use Rattle.mod_signing.specs.Kept.{Kept, kept_of, keeping, windowed, with_signed}
 use Rattle.mod_signing.specs.Rings.{Rows, is_set, place_set, ring_of, ring_with, row_cmp}
 use Rattle.mod_signing.proofs.RingLemmas.{with_length_behind, with_length_within}

@@ -1,18 +1,12 @@
 -- A record in another window: its ring is read from its next place on, and holds the last votes that both windows have.
-use Rattle.std.proofs.Common.{◌≡◌, ◌∙◌, ◌⊎◌, inl, inr, ℕ, ◌+◌, ◌-◌, ◌*◌, ◌%◌, ◌<◌, ◌≤◌, ◌==◌, Bool, true, false, List, [], ◌∷◌, ◌++◌, length, take, drop, min, refl, sym, ap, subst, length-drop, arith}
-use Rattle.std.specs.Prelude.{◌≢◌, ◌&&◌, ◌||◌, nat_lt, reverse, map, if◌then◌else◌}
-use Rattle.std.proofs.lemmas.Bool.Decides.{nat_tests}
-use Rattle.std.proofs.lemmas.Nat.{mod-mul-add}
-use Rattle.std.proofs.lemmas.List.{append-nil, length-reverse, length-take, reverse-append, take-append-drop, take-take, take_all, drop_all, drop_at}
+use Rattle.std.proofs.Common.{◌≡◌, ◌∙◌, ◌⊎◌, inl, inr, ℕ, ◌+◌, ◌-◌, ◌*◌, ◌%◌, ◌<◌, ◌≤◌, ◌==◌, Bool, true, false, List, [], ◌∷◌, ◌++◌, length, take, drop, min, refl, sym, ap, subst, length-drop, arith, ◌≢◌, ◌&&◌, ◌||◌, nat_lt, reverse, map, if◌then◌else◌, append-nil, length-take, take-append-drop, take-take, take_all, drop_at}
+use Rattle.std.proofs.lemmas.{Bool.Decides.nat_tests, Nat.mod-mul-add, List.{length-reverse, reverse-append, drop_all}}
 use Rattle.base_roles.specs.declared.entities.SigningInfo.{SigningInfo}
-use Rattle.rule_modules.proofs.ParameterLemmas.{one_resized, resized_each}
-use Rattle.rule_modules.proofs.TieLemmas.{ring_counts_misses}
+use Rattle.rule_modules.proofs.{ParameterLemmas.{one_resized, resized_each}, TieLemmas.ring_counts_misses}
 use Rattle.rule_modules.specs.Window.{IsRing, Signing, Window, missed_of, votes_kept}
-use Rattle.mod_signing.specs.Kept.{Kept, Signed}
-use Rattle.mod_signing.specs.Laws.{ResizingCarries}
+use Rattle.mod_signing.specs.{Kept.{Kept, Signed}, Laws.ResizingCarries}
 use Rattle.mod_signing.specs.Resizing.{has_room, kept_resized, last_votes_of, next_of, signed_resized, votes_of, with_last}
-use Rattle.mod_signing.specs.Stands.{KeepsSignings, KeepsVotes}
-use Rattle.mod_signing.proofs.RingLemmas.{next_low, ring_length, turned}
+use Rattle.mod_signing.{specs.Stands.{KeepsSignings, KeepsVotes}, proofs.RingLemmas.{next_low, ring_length, turned}}
 
 -- ---- lists
 

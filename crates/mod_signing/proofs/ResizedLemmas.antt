@@ -1,34 +1,23 @@
 -- A walk that resizes one record after another; one record that it resizes; and the votes that are read of a ring, from its next
 -- place around its end.
-use Rattle.std.proofs.Common.{◌≡◌, ◌∙◌, ◌⊎◌, inl, inr, ℕ, ◌+◌, ◌-◌, ◌%◌, ◌<◌, ◌≤◌, ◌==◌, Bool, true, false, cond, List, [], ◌∷◌, ◌++◌, Option, Some, None, length, take, drop, get_or, refl, sym, ap, subst, append_assoc, length-drop, mod-lt, arith}
-use Rattle.std.specs.Prelude.{◌≢◌, ◌&&◌, if◌then◌else◌, map, slice_get, option_map, Result, Ok, Err, OnOk, OnErr, ⊤}
-use Rattle.std.specs.declared.cmp.Ordering.{Ordering}
-use Rattle.std.specs.declared.cmp.Ordering.TheVariants.{Greater, Less}
-use Rattle.std.specs.declared.ops.Bound.TheVariants.{Excluded, Unbounded}
-use Rattle.std.specs.BTreeMap.{insert_entry, is_at}
-use Rattle.std.specs.BTreeMap.Range.{entries_between}
-use Rattle.std.specs.Cmp.{IsTotalOrder, tied_itself}
-use Rattle.std.specs.List.{AllByRecursion}
-use Rattle.std.specs.List.Sorted.{IsStrictlySortedBy}
-use Rattle.std.specs.Map.{keys_of, lookup}
-use Rattle.std.specs.Ordering.{is_eq, is_lt, match_ordering, ordering_reverse}
-use Rattle.std.proofs.lemmas.Bool.Decides.{nat_tests}
-use Rattle.std.proofs.lemmas.List.{append-nil, length-take, length-take-le, map-append, take_all, drop_all, take_more, drop-append-le, get_or_append_left, get_or-append-add, get_or-drop, get_or-take}
+use Rattle.std.proofs.Common.{◌≡◌, ◌∙◌, ◌⊎◌, inl, inr, ℕ, ◌+◌, ◌-◌, ◌%◌, ◌<◌, ◌≤◌, ◌==◌, Bool, true, false, cond, List, [], ◌∷◌, ◌++◌, Option, Some, None, length, take, drop, get_or, refl, sym, ap, subst, append_assoc, length-drop, mod-lt, arith, ◌≢◌, ◌&&◌, if◌then◌else◌, map, slice_get, option_map, Result, Ok, Err, OnOk, OnErr, Ordering, Greater, Less, is_eq, is_lt, append-nil, length-take, length-take-le, take_all, get_or-append-add, get_or-drop, get_or-take}
+use Rattle.std.specs.{Prelude.⊤, declared.ops.Bound.TheVariants.{Excluded, Unbounded}, BTreeMap.{insert_entry, is_at}}
+use Rattle.std.specs.{BTreeMap.Range.entries_between, Cmp.{IsTotalOrder, tied_itself}, List.AllByRecursion}
+use Rattle.std.specs.{List.Sorted.IsStrictlySortedBy, Map.{keys_of, lookup}}
+use Rattle.std.{specs.Ordering.{match_ordering, ordering_reverse}, proofs.lemmas.Bool.Decides.nat_tests}
+use Rattle.std.proofs.lemmas.List.{map-append, drop_all, take_more, drop-append-le, get_or_append_left}
 use Rattle.std.proofs.lemmas.Option.{get_or_from_slice_get}
 use Rattle.base_types.specs.Orders.{cons_cmp}
 use Rattle.base_table.specs.Tabled.{entry_above, first_of}
 use Rattle.base_roles.specs.declared.entities.SigningInfo.{SigningInfo}
 use Rattle.base_records.proofs.WalkLemmas.{left_of, walk-end, walk-more}
 use Rattle.rule_modules.specs.Amounts.{count_where}
-use Rattle.mod_signing.specs.declared.entry.Entry.{Entry}
-use Rattle.mod_signing.specs.Calls.{HasEntry, entry_told, ring_at, ring_if, signed_told}
+use Rattle.mod_signing.specs.{declared.entry.Entry.Entry, Calls.{HasEntry, entry_told, ring_at, ring_if, signed_told}}
 use Rattle.mod_signing.specs.Items.{signed_over}
 use Rattle.mod_signing.specs.Kept.{Signed, Kept, Windowed, AreInOrder, keeping, kept_of, signed_of, with_signed}
 use Rattle.mod_signing.specs.Resizing.{has_room, kept_resized, last_votes_of, next_of, resized_at, signed_resized, votes_of, with_last}
-use Rattle.mod_signing.specs.Rings.{Rows, place_set}
-use Rattle.mod_signing.proofs.RingLemmas.{turned, turned_length}
-use Rattle.mod_signing.proofs.TableLemmas.{cons_total}
-use Rattle.mod_signing.proofs.UptoLemmas.{first_length}
+use Rattle.mod_signing.{specs.Rings.{Rows, place_set}, proofs.RingLemmas.{turned, turned_length}}
+use Rattle.mod_signing.proofs.{TableLemmas.cons_total, UptoLemmas.first_length}
 
 some_is : {A : Type 0} (a b : A) → Some a ≡ Some b → a ≡ b
 some_is a b e = cc

@@ -1,12 +1,9 @@
 -- A vote in a ring: what stood at its place gives way, and the ring holds the last votes of the window with this one.
-use Rattle.std.proofs.Common.{◌≡◌, ◌∙◌, ◌⊎◌, inl, inr, ℕ, ◌+◌, ◌-◌, ◌*◌, ◌/◌, ◌%◌, ◌<◌, ◌≤◌, Bool, false, cond, List, [], ◌∷◌, ◌++◌, length, get_or, take, drop, sym, ap, subst, append_assoc, add-one, length-append, length-drop, div-add-mod', mod-lt, arith}
-use Rattle.std.specs.Prelude.{reverse}
-use Rattle.std.proofs.lemmas.List.{append-nil, get_or_past, length_push, length-reverse, length-take-le, take-append-drop, reverse-append, take_all, drop_all, take_at, drop_at, take_more, drop_more}
+use Rattle.std.proofs.Common.{◌≡◌, ◌∙◌, ◌⊎◌, inl, inr, ℕ, ◌+◌, ◌-◌, ◌*◌, ◌/◌, ◌%◌, ◌<◌, ◌≤◌, Bool, false, cond, List, [], ◌∷◌, ◌++◌, length, get_or, take, drop, sym, ap, subst, append_assoc, add-one, length-append, length-drop, div-add-mod', mod-lt, arith, reverse, append-nil, length-take-le, take-append-drop, take_all, take_at, drop_at}
+use Rattle.std.proofs.lemmas.List.{get_or_past, length_push, length-reverse, reverse-append, drop_all, take_more, drop_more}
 use Rattle.std.proofs.lemmas.Nat.{mod-mul-add}
-use Rattle.rule_modules.specs.Amounts.{count_where}
-use Rattle.rule_modules.specs.Window.{IsRing, missed_of}
-use Rattle.mod_signing.specs.Rings.{ring_with}
-use Rattle.mod_signing.proofs.UptoLemmas.{at_end}
+use Rattle.rule_modules.specs.{Amounts.count_where, Window.{IsRing, missed_of}}
+use Rattle.mod_signing.{specs.Rings.ring_with, proofs.UptoLemmas.at_end}
 
 -- ---- the next place
 

@@ -1,23 +1,14 @@
 -- What is listed as touched of two tables tells the records at the last settling, and so the changes since then.
-use Rattle.std.proofs.Common.{◌≡◌, ◌∙◌, ℕ, ◌/◌, ◌%◌, Bool, true, false, cond, List, [], ◌∷◌, Option, Some, None, refl, sym, ap, subst}
-use Rattle.std.specs.Prelude.{option_map, unwrap_or}
-use Rattle.std.specs.BTreeMap.{is_at}
-use Rattle.std.specs.List.{IsDistinct}
-use Rattle.std.specs.List.Sorted.{IsStrictlySortedBy}
-use Rattle.std.specs.Map.{keys_of}
-use Rattle.std.specs.Ordering.{eq_by_cmp}
+use Rattle.std.proofs.Common.{◌≡◌, ◌∙◌, ℕ, ◌/◌, ◌%◌, Bool, true, false, cond, List, [], ◌∷◌, Option, Some, None, refl, sym, ap, subst, option_map, unwrap_or}
+use Rattle.std.specs.{BTreeMap.is_at, List.{IsDistinct, Sorted.IsStrictlySortedBy}, Map.keys_of, Ordering.eq_by_cmp}
 use Rattle.base_types.specs.Orders.{cons_cmp}
 use Rattle.base_table.specs.Tabled.{Tabled, TellsSettled, value_at}
-use Rattle.base_roles.specs.Entries.{number_at}
-use Rattle.base_roles.specs.Items.{AreChanges}
-use Rattle.base_records.specs.Items.{AnyValue, changes_of}
-use Rattle.base_records.proofs.RowLemmas.{rows-changed}
-use Rattle.mod_signing.specs.declared.entry.Entry.{Entry}
-use Rattle.mod_signing.specs.Kept.{Signed, kept_of, AreTouched}
+use Rattle.base_roles.specs.{Entries.number_at, Items.AreChanges}
+use Rattle.base_records.{specs.Items.{AnyValue, changes_of}, proofs.RowLemmas.rows-changed}
+use Rattle.mod_signing.specs.{declared.entry.Entry.Entry, Kept.{Signed, kept_of, AreTouched}}
 use Rattle.mod_signing.specs.Rings.{Rows, is_set, place_set, ring_of, row_cmp}
 use Rattle.mod_signing.specs.Items.{items_of, same_signed, signed_over, signing_entry, signing_gone, signing_item, touched_over}
-use Rattle.mod_signing.proofs.ItemLemmas.{signings_are_rowed}
-use Rattle.mod_signing.proofs.TableLemmas.{cons_exact, cons_total, signed_found}
+use Rattle.mod_signing.proofs.{ItemLemmas.signings_are_rowed, TableLemmas.{cons_exact, cons_total, signed_found}}
 use Rattle.mod_signing.proofs.UptoLemmas.{first_same}
 
 -- ---- keys

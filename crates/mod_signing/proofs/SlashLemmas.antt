@@ -1,19 +1,11 @@
 -- After a slash and a jailing: what has fallen, what is left of the ground, and what both together answer.
 use Rattle.std.proofs.Common.{◌≡◌, ◌∙◌, ℕ, ◌++◌, append_assoc, List, Result, Ok, Err, refl, sym, ap, subst}
 use Rattle.base_decimals.specs.declared.over.Over.{Over}
-use Rattle.base_roles.specs.declared.bank.Ground.{Ground}
-use Rattle.base_roles.specs.declared.facts.Fact.{Fact}
-use Rattle.base_roles.specs.declared.faults.HookFault.{HookFault}
-use Rattle.base_roles.specs.declared.faults.HookFault.TheVariants.{NoMemory}
-use Rattle.base_roles.specs.Answers.{Follows}
-use Rattle.base_roles.specs.Ground.{CanBeUndone}
-use Rattle.base_roles.specs.Lent.{jail_told}
-use Rattle.base_roles.specs.Staked.{validator_by_cons}
-use Rattle.base_roles.specs.StakeChanges.{StakeFalls}
-use Rattle.base_roles.specs.Flow.{◌>>=◌}
+use Rattle.base_roles.specs.declared.{bank.Ground.Ground, facts.Fact.Fact, faults.HookFault.HookFault}
+use Rattle.base_roles.specs.{declared.faults.HookFault.TheVariants.NoMemory, Answers.Follows, Ground.CanBeUndone}
+use Rattle.base_roles.specs.{Lent.jail_told, Staked.validator_by_cons, StakeChanges.StakeFalls, Flow.{◌>>=◌}}
 use Rattle.base_roles.specs.World.{View, World}
-use Rattle.rule_modules.specs.Answers.{Leaves}
-use Rattle.rule_modules.specs.Slashing.{Slashes, jail_lent}
+use Rattle.rule_modules.specs.{Answers.Leaves, Slashing.{Slashes, jail_lent}}
 use Rattle.mod_signing.specs.Calls.{GroundGoesOn}
 
 -- ---- the accounts and the ground

@@ -1,21 +1,12 @@
 -- Records that stand for plain ones: found under one address, put under one, begun, counted, reset and banned.
-use Rattle.std.proofs.Common.{◌≡◌, ◌∙◌, ℕ, ◌+◌, ◌-◌, ◌%◌, ◌≤◌, Bool, true, false, cond, List, [], ◌∷◌, length, get_or, Option, Some, None, refl, sym, ap, subst, arith}
-use Rattle.std.specs.Prelude.{⊤}
-use Rattle.std.specs.declared.cmp.Ordering.{Ordering}
-use Rattle.std.specs.declared.cmp.Ordering.TheVariants.{Less, Equal, Greater}
-use Rattle.std.specs.BTreeMap.{insert_entry, is_at}
-use Rattle.std.specs.Ordering.{match_ordering}
+use Rattle.std.proofs.Common.{◌≡◌, ◌∙◌, ℕ, ◌+◌, ◌-◌, ◌%◌, ◌≤◌, Bool, true, false, cond, List, [], ◌∷◌, length, get_or, Option, Some, None, refl, sym, ap, subst, arith, Ordering, Less, Equal, Greater}
+use Rattle.std.specs.{Prelude.⊤, BTreeMap.{insert_entry, is_at}, Ordering.match_ordering}
 use Rattle.base_types.specs.Orders.{cons_cmp}
-use Rattle.base_roles.specs.declared.entities.SigningInfo.{SigningInfo}
-use Rattle.base_roles.specs.declared.params.Ctx.{Ctx}
-use Rattle.base_roles.specs.Entries.{with}
+use Rattle.base_roles.specs.{declared.{entities.SigningInfo.SigningInfo, params.Ctx.Ctx}, Entries.with}
 use Rattle.rule_modules.specs.Evidence.{banned, banned_of}
 use Rattle.rule_modules.specs.Window.{Signing, Window, IsRing, info_of, missed_of, signing_of, signing_started, begun_at, reset_at}
-use Rattle.mod_signing.specs.Calls.{one_more}
-use Rattle.mod_signing.specs.Kept.{Signed, Kept, signed_of, with_signed}
-use Rattle.mod_signing.specs.Rings.{ring_with}
-use Rattle.mod_signing.specs.Stands.{IsSound, KeepsVotes, KeepsSignings, bans_if, bans_kept}
-use Rattle.mod_signing.specs.Laws.{BanningCarries}
+use Rattle.mod_signing.specs.{Calls.one_more, Kept.{Signed, Kept, signed_of, with_signed}, Rings.ring_with}
+use Rattle.mod_signing.specs.{Stands.{IsSound, KeepsVotes, KeepsSignings, bans_if, bans_kept}, Laws.BanningCarries}
 use Rattle.mod_signing.proofs.RingLemmas.{ring_voted, misses_voted, ring_reset, misses_reset}
 
 -- ---- under one address

@@ -1,25 +1,15 @@
 -- Entries and rows as records: what is found under one address, and what a change of both makes of the records.
-use Rattle.std.proofs.Common.{◌≡◌, ◌∙◌, ◌⊎◌, inl, inr, ℕ, ◌+◌, ◌/◌, ◌%◌, ◌<◌, ◌==◌, Bool, true, false, cond, List, [], ◌∷◌, length, Option, Some, None, refl, sym, ap, subst, div-add-mod', mod-lt, arith}
-use Rattle.std.specs.Prelude.{◌&&◌, ◌≢◌, option_map, unwrap_or, slice_get}
-use Rattle.std.specs.declared.cmp.Ordering.{Ordering}
-use Rattle.std.specs.declared.cmp.Ordering.TheVariants.{Less, Equal, Greater}
-use Rattle.std.specs.BTreeMap.{insert_entry, is_at}
-use Rattle.std.specs.Cmp.{IsTotalOrder, tied_itself, tied_then, on_total, then_total}
-use Rattle.std.specs.List.{AllByRecursion}
-use Rattle.std.specs.List.Sorted.{IsStrictlySortedBy}
-use Rattle.std.specs.Map.{keys_of}
-use Rattle.std.specs.Ordering.{nat_cmp, is_eq, match_ordering, ordering_reverse}
-use Rattle.std.proofs.lemmas.Bool.Decides.{nat_tests}
-use Rattle.std.proofs.lemmas.Cmp.{nat_list_cmp_total, nat_cmp_total}
-use Rattle.std.proofs.lemmas.Map.Lookups.{exact_bytes}
-use Rattle.base_types.specs.Orders.{cons_cmp}
-use Rattle.base_types.proofs.MapLemmas.{equal, all-below, at-put}
+use Rattle.std.proofs.Common.{◌≡◌, ◌∙◌, ◌⊎◌, inl, inr, ℕ, ◌+◌, ◌/◌, ◌%◌, ◌<◌, ◌==◌, Bool, true, false, cond, List, [], ◌∷◌, length, Option, Some, None, refl, sym, ap, subst, div-add-mod', mod-lt, arith, ◌&&◌, ◌≢◌, option_map, unwrap_or, slice_get, Ordering, Less, Equal, Greater, nat_cmp, is_eq}
+use Rattle.std.specs.{BTreeMap.{insert_entry, is_at}, Cmp.{IsTotalOrder, tied_itself, tied_then, on_total, then_total}}
+use Rattle.std.specs.{List.{AllByRecursion, Sorted.IsStrictlySortedBy}, Map.keys_of}
+use Rattle.std.{specs.Ordering.{match_ordering, ordering_reverse}, proofs.lemmas.Bool.Decides.nat_tests}
+use Rattle.std.proofs.lemmas.{Cmp.{nat_list_cmp_total, nat_cmp_total}, Map.Lookups.exact_bytes}
+use Rattle.base_types.{specs.Orders.cons_cmp, proofs.MapLemmas.{equal, all-below, at-put}}
 use Rattle.base_roles.specs.Entries.{at, number_at}
 use Rattle.mod_signing.specs.declared.entry.Entry.{Entry}
 use Rattle.mod_signing.specs.Calls.{IsRow, ring_at, ring_if, told_of_entry, told_of_signed}
 use Rattle.mod_signing.specs.Kept.{kept_of, signed_of, with_signed}
-use Rattle.mod_signing.specs.Rings.{Rows, is_set, place_set, ring_of, ring_with, row_cmp}
-use Rattle.mod_signing.specs.Items.{signed_over}
+use Rattle.mod_signing.specs.{Rings.{Rows, is_set, place_set, ring_of, ring_with, row_cmp}, Items.signed_over}
 use Rattle.mod_signing.proofs.UptoLemmas.{first_at, first_changed, first_length, first_next, first_same}
 
 pub cons_total : IsTotalOrder cons_cmp

@@ -1,18 +1,12 @@
 -- What is listed as touched once a key is touched; and that a row is listed only where the entry of its address is.
-use Rattle.std.proofs.Common.{◌≡◌, ◌∙◌, ◌⊎◌, inl, inr, ℕ, ◌==◌, Bool, true, false, cond, List, [], ◌∷◌, ◌++◌, length, Option, Some, None, refl, sym, ap}
-use Rattle.std.specs.Prelude.{◌&&◌, is_some, if◌then◌else◌}
-use Rattle.std.specs.declared.cmp.Ordering.{Ordering}
-use Rattle.std.specs.BTreeMap.{is_at}
-use Rattle.std.specs.Cmp.{IsTotalOrder, tied_itself}
-use Rattle.std.specs.Ordering.{is_eq}
+use Rattle.std.proofs.Common.{◌≡◌, ◌∙◌, ◌⊎◌, inl, inr, ℕ, ◌==◌, Bool, true, false, cond, List, [], ◌∷◌, ◌++◌, length, Option, Some, None, refl, sym, ap, ◌&&◌, is_some, if◌then◌else◌, Ordering, is_eq}
+use Rattle.std.specs.{BTreeMap.is_at, Cmp.{IsTotalOrder, tied_itself}}
 use Rattle.base_types.specs.Orders.{cons_cmp}
 use Rattle.base_table.specs.Tabled.{Tabled, key_in, spent_now, touched_with, value_at, with_value}
 use Rattle.base_table.proofs.RestoredLemmas.{key_in-tied}
-use Rattle.mod_signing.specs.declared.entry.Entry.{Entry}
+use Rattle.mod_signing.specs.{declared.entry.Entry.Entry, Kept.{HaveSameMarks, behind, kept_of, windowed}}
+use Rattle.mod_signing.{specs.Rings.{Rows, row_cmp}, proofs.TableLemmas.{cons_exact, cons_total, row_found, row_total}}
 use Rattle.base_records.specs.Marks.{side_by_side}
-use Rattle.mod_signing.specs.Kept.{HaveSameMarks, behind, kept_of, windowed}
-use Rattle.mod_signing.specs.Rings.{Rows, row_cmp}
-use Rattle.mod_signing.proofs.TableLemmas.{cons_exact, cons_total, row_found, row_total}
 
 module _ {K V : Type 0} {R : K → K → Ordering} (o : IsTotalOrder R) where
   -- behind the last, under another key

@@ -1,26 +1,19 @@
 -- Leaving jail by the rule, step by step, and what a call that follows it answers.
-use Rattle.std.proofs.Common.{◌≡◌, ◌∙◌, ℕ, ◌^◌, ◌<◌, ◌≤◌, false, List, Some, None, Result, Ok, Err, refl, sym, ap, subst, arith}
-use Rattle.std.specs.Prelude.{⊤, not, nat_lt, option_map}
+use Rattle.std.proofs.Common.{◌≡◌, ◌∙◌, ℕ, ◌^◌, ◌<◌, ◌≤◌, false, List, Some, None, Result, Ok, Err, refl, sym, ap, subst, arith, not, nat_lt, option_map}
+use Rattle.std.specs.Prelude.{⊤}
 use Rattle.base_decimals.specs.Decimals.{trunc_of}
 use Rattle.base_shares.specs.Shares.{value_even_of}
-use Rattle.base_roles.specs.declared.entities.SigningInfo.{SigningInfo}
-use Rattle.base_roles.specs.declared.entities.Validator.{Validator}
-use Rattle.base_roles.specs.declared.facts.Fact.TheVariants as fact
-use Rattle.base_roles.specs.declared.faults.MessageFault.TheVariants as stop
-use Rattle.base_roles.specs.declared.refusal.Refusal.{Refusal}
+use Rattle.base_roles.specs.declared.{entities.{SigningInfo.SigningInfo, Validator.Validator}, refusal.Refusal.Refusal}
 use Rattle.base_roles.specs.declared.refusal.Refusal.TheVariants.{NoValidator, NoSelfDelegation, SelfBelowMinimum, NotJailed, StillJailed, Tombstoned}
 use Rattle.base_roles.specs.Staked.{Staked, validator_at, delegation, put_validator}
-use Rattle.base_roles.specs.Flow.{◌>>=◌, ◌>>◌, stop_if, or_stop}
-use Rattle.base_roles.specs.World.{View, noted}
-use Rattle.rule_modules.specs.Answers.{AnswersHeld}
-use Rattle.rule_modules.specs.Window.{Signing, Window, may_leave, signing_of, unjailed}
+use Rattle.base_roles.specs.{Flow.{◌>>=◌, ◌>>◌, stop_if, or_stop}, World.{View, noted}}
+use Rattle.base_roles.specs.declared.facts.Fact.TheVariants as fact
+use Rattle.base_roles.specs.declared.faults.MessageFault.TheVariants as stop
+use Rattle.rule_modules.specs.{Answers.AnswersHeld, Window.{Signing, Window, may_leave, signing_of, unjailed}}
 use Rattle.rule_modules.proofs.SoundLemmas.{IsSoundAt, to_points}
-use Rattle.mod_staking.specs.Calls.{IsSoundStake, changed_at, with_if}
-use Rattle.mod_staking.proofs.DelegateLemmas.{held-most}
-use Rattle.mod_signing.specs.Calls.{HasEntry, free_to_leave, over_by}
-use Rattle.mod_signing.specs.Kept.{Signed, Kept, signed_of}
-use Rattle.mod_signing.specs.Stands.{KeepsSignings, KeepsVotes}
-use Rattle.mod_signing.proofs.StandLemmas.{none_at, plain_at}
+use Rattle.mod_staking.{specs.Calls.{IsSoundStake, changed_at, with_if}, proofs.DelegateLemmas.held-most}
+use Rattle.mod_signing.specs.{Calls.{HasEntry, free_to_leave, over_by}, Kept.{Signed, Kept, signed_of}}
+use Rattle.mod_signing.{specs.Stands.{KeepsSignings, KeepsVotes}, proofs.StandLemmas.{none_at, plain_at}}
 
 -- one step behind two is the second step with it behind the first
 then_then : {E A B C : Type 0} (a : Result A E) (b : Result B E) (c : Result C E) → ◌>>◌ (◌>>◌ a b) c ≡ ◌>>◌ a (◌>>◌ b c)

@@ -1,7 +1,6 @@
 -- The first values of a test, as lists.
-use Rattle.std.proofs.Common.{◌≡◌, ◌∙◌, ◌⊎◌, inl, inr, ℕ, ◌+◌, ◌<◌, ◌≤◌, Bool, List, [], ◌∷◌, ◌++◌, length, take, drop, Some, refl, sym, ap, append_assoc, add-one, arith}
-use Rattle.std.specs.Prelude.{suc, zero, ◌≢◌, slice_get}
-use Rattle.std.proofs.lemmas.List.{length_push, take_all, drop_all, take-append-le, drop-append-le, take_at}
+use Rattle.std.proofs.Common.{◌≡◌, ◌∙◌, ◌⊎◌, inl, inr, ℕ, ◌+◌, ◌<◌, ◌≤◌, Bool, List, [], ◌∷◌, ◌++◌, length, take, drop, Some, refl, sym, ap, append_assoc, add-one, arith, suc, zero, ◌≢◌, slice_get, take_all, take_at}
+use Rattle.std.proofs.lemmas.List.{length_push, drop_all, take-append-le, drop-append-le}
 use Rattle.mod_signing.specs.Rings.{firsts, ring_with}
 
 -- a number that is at most another is it, or below it

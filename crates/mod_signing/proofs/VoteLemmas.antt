@@ -1,28 +1,17 @@
 -- A vote by the rule, case by case, and what a call that follows it answers.
-use Rattle.std.proofs.Common.{◌≡◌, ◌∙◌, ℕ, ◌-◌, ◌%◌, ◌≤◌, Bool, true, false, [], ◌∷◌, take, Option, Some, None, Result, Ok, Err, refl, sym, ap, subst}
-use Rattle.std.specs.Prelude.{⊤, not, ◌&&◌, if◌then◌else◌}
-use Rattle.std.proofs.lemmas.List.{append-nil}
+use Rattle.std.proofs.Common.{◌≡◌, ◌∙◌, ℕ, ◌-◌, ◌%◌, ◌≤◌, Bool, true, false, [], ◌∷◌, take, Option, Some, None, Result, Ok, Err, refl, sym, ap, subst, not, ◌&&◌, if◌then◌else◌, append-nil}
+use Rattle.std.specs.Prelude.{⊤}
 use Rattle.base_decimals.specs.declared.over.Over.{Over}
 use Rattle.base_types.specs.Orders.{cons_cmp}
-use Rattle.base_roles.specs.declared.bank.Ground.{Ground}
-use Rattle.base_roles.specs.declared.entities.Validator.{Validator}
-use Rattle.base_roles.specs.declared.entities.SigningInfo.{SigningInfo}
-use Rattle.base_roles.specs.declared.faults.HookFault.{HookFault}
-use Rattle.base_roles.specs.declared.faults.HookFault.TheVariants.{NoMemory}
-use Rattle.base_roles.specs.declared.messages.Vote.{Vote}
-use Rattle.base_roles.specs.Entries.{with}
-use Rattle.base_roles.specs.Flow.{◌>>=◌}
-use Rattle.base_roles.specs.World.{View, World}
-use Rattle.rule_modules.specs.Answers.{Leaves, WantsMemory}
-use Rattle.rule_modules.specs.Slashing.{Slashes, jail_lent}
+use Rattle.base_roles.specs.declared.{bank.Ground.Ground, entities.{Validator.Validator, SigningInfo.SigningInfo}}
+use Rattle.base_roles.specs.declared.{faults.HookFault.{HookFault, TheVariants.NoMemory}, messages.Vote.Vote}
+use Rattle.base_roles.specs.{Entries.with, Flow.{◌>>=◌}, World.{View, World}}
+use Rattle.rule_modules.specs.{Answers.{Leaves, WantsMemory}, Slashing.{Slashes, jail_lent}}
 use Rattle.rule_modules.specs.Window.{Signing, Window, info_of, is_downtime, reset_at, signing_of, vote_counted}
 use Rattle.mod_signing.specs.Calls.{VoteAnswers, GroundGoesOn, HasEntry, down_of, downtime_slashed, is_punished, ring_at}
-use Rattle.mod_signing.specs.Kept.{Signed, Kept, signed_of, with_signed}
-use Rattle.mod_signing.specs.Rings.{ring_with}
-use Rattle.mod_signing.specs.Stands.{KeepsSignings, KeepsVotes}
-use Rattle.mod_signing.proofs.CallLemmas.{keeps_counted, keeps_reset}
-use Rattle.mod_signing.proofs.DownLemmas.{down_by, reset_is}
-use Rattle.mod_signing.proofs.StandLemmas.{stands_at}
+use Rattle.mod_signing.specs.{Kept.{Signed, Kept, signed_of, with_signed}, Rings.ring_with}
+use Rattle.mod_signing.{specs.Stands.{KeepsSignings, KeepsVotes}, proofs.CallLemmas.{keeps_counted, keeps_reset}}
+use Rattle.mod_signing.proofs.{DownLemmas.{down_by, reset_is}, StandLemmas.stands_at}
 
 -- the votes of a record with one more
 abbrev pub with_vote : Vote → Signing → Signing

@@ -1,16 +1,12 @@
 -- Walks over entries and over what is touched, whose items and changes are those of the records; and a ring read row by row.
-use Rattle.std.proofs.Common.{◌≡◌, ◌∙◌, ℕ, ◌+◌, ◌*◌, ◌/◌, ◌%◌, ◌<◌, ◌≤◌, Bool, List, [], ◌∷◌, ◌++◌, Option, Some, None, refl, sym, ap, append_assoc, div-add-mod', arith}
-use Rattle.std.specs.Prelude.{zero, suc, map, option_map}
-use Rattle.std.proofs.lemmas.List.{append-nil}
+use Rattle.std.proofs.Common.{◌≡◌, ◌∙◌, ℕ, ◌+◌, ◌*◌, ◌/◌, ◌%◌, ◌<◌, ◌≤◌, Bool, List, [], ◌∷◌, ◌++◌, Option, Some, None, refl, sym, ap, append_assoc, div-add-mod', arith, zero, suc, map, option_map, append-nil}
 use Rattle.std.proofs.lemmas.Nat.{mod-mul-add}
 use Rattle.base_types.specs.Orders.{cons_cmp}
 use Rattle.base_table.specs.Tabled.{entry_above, value_at}
-use Rattle.base_roles.specs.declared.items.Item.{Item}
-use Rattle.base_roles.specs.Entries.{at, number_at}
+use Rattle.base_roles.specs.{declared.items.Item.Item, Entries.{at, number_at}}
 use Rattle.base_records.specs.Items.{change_of, changes_of}
 use Rattle.base_records.proofs.WalkLemmas.{Walked, walked-all, Told, told-all, told-same, told-more}
-use Rattle.mod_signing.specs.declared.entry.Entry.{Entry}
-use Rattle.mod_signing.specs.Kept.{kept_of}
+use Rattle.mod_signing.specs.{declared.entry.Entry.Entry, Kept.kept_of}
 use Rattle.mod_signing.specs.Rings.{Rows, is_set, place_set, places_of, ring_of, row_cmp}
 use Rattle.mod_signing.specs.Items.{items_of, same_signed, signed_over, signing_gone, signing_item, touched_over}
 use Rattle.mod_signing.proofs.TableLemmas.{signed_found}

@@ -1,10 +1,7 @@
 -- The fraction that is recorded of a burn.
-use Rattle.std.proofs.Common.{◌≡◌, ◌∙◌, ℕ, ◌*◌, ◌^◌, ◌<◌, ◌≤◌, Bool, true, false, cond, sym, arith}
-use Rattle.std.specs.Prelude.{nat_lt, min, Result, Ok, Err}
-use Rattle.base_decimals.specs.declared.over.Over.{Over}
-use Rattle.base_decimals.specs.Decimals.{quotient_over, whole_of, quo_up_of}
-use Rattle.base_shares.specs.Burns.{recorded_fraction}
-use Rattle.base_shares.proofs.Fractions.{fraction_fits, fraction_most}
+use Rattle.std.proofs.Common.{◌≡◌, ◌∙◌, ℕ, ◌*◌, ◌^◌, ◌<◌, ◌≤◌, Bool, true, false, cond, sym, arith, nat_lt, min, Result, Ok, Err}
+use Rattle.base_decimals.specs.{declared.over.Over.Over, Decimals.{quotient_over, whole_of, quo_up_of}}
+use Rattle.base_shares.{specs.Burns.recorded_fraction, proofs.Fractions.{fraction_fits, fraction_most}}
 use Rattle.rule_modules.specs.Slashing.{slash_fraction}
 
 -- a number that is given

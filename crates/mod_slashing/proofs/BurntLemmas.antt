@@ -1,37 +1,24 @@
 -- What the hook of a slash leaves, and the burn of a validator's own tokens behind it.
-use Rattle.std.proofs.Common.{◌≡◌, ◌∙◌, ℕ, ◌+◌, ◌-◌, ◌^◌, ◌<◌, ◌≤◌, ◌==◌, Bool, true, false, cond, List, [], append-nil, refl, sym, ap, subst, arith}
-use Rattle.std.specs.Prelude.{◌&&◌, min, Some, None, Result, Ok}
-use Rattle.std.specs.BTreeMap.{is_at}
-use Rattle.std.specs.Cmp.{eq_by_cmp_equiv}
+use Rattle.std.proofs.Common.{◌≡◌, ◌∙◌, ℕ, ◌+◌, ◌-◌, ◌^◌, ◌<◌, ◌≤◌, ◌==◌, Bool, true, false, cond, List, [], append-nil, refl, sym, ap, subst, arith, ◌&&◌, min, Some, None, Result, Ok}
+use Rattle.std.specs.{BTreeMap.is_at, Cmp.eq_by_cmp_equiv}
 use Rattle.base_decimals.specs.declared.over.Over.{Over}
 use Rattle.base_types.specs.declared.account.Account.TheVariants as account
 use Rattle.base_types.specs.declared.account.Module.TheVariants as holder
-use Rattle.base_types.specs.declared.status.BondStatus.{BondStatus}
-use Rattle.base_types.specs.Orders.{account_cmp, denom_cmp}
+use Rattle.base_types.specs.{declared.status.BondStatus.BondStatus, Orders.{account_cmp, denom_cmp}}
 use Rattle.base_coins.specs.Coins.{amount_of}
-use Rattle.base_roles.specs.declared.entities.Validator.{Validator}
-use Rattle.base_roles.specs.declared.facts.Fact.TheVariants as fact
-use Rattle.base_roles.specs.declared.params.Ctx.{Ctx}
-use Rattle.base_roles.specs.Ground.{AreInRange, end_of_blocks}
-use Rattle.base_roles.specs.Holdings.{balance_of, supply_of, IsBacked}
-use Rattle.base_roles.specs.Hooks.{Tells, Stand, Ready, Keeps, Lawful}
-use Rattle.base_roles.specs.Owing.{Lists}
-use Rattle.base_roles.specs.Log as log
-use Rattle.base_roles.specs.Log.{Log}
+use Rattle.base_roles.specs.declared.{entities.Validator.Validator, params.Ctx.Ctx}
+use Rattle.base_roles.specs.{Ground.{AreInRange, end_of_blocks}, Holdings.{balance_of, supply_of, IsBacked}}
+use Rattle.base_roles.specs.{Hooks.{Tells, Stand, Ready, Keeps, Lawful}, Owing.Lists, Log.Log}
 use Rattle.base_roles.specs.Staked.{Staked, validator_at, put_validator, is_bonded, bonded_tokens, other_tokens}
-use Rattle.base_roles.specs.StakeChanges.{HoldsStake, StakeFalls}
-use Rattle.base_roles.specs.Flow.{◌>>=◌}
+use Rattle.base_roles.specs.{StakeChanges.{HoldsStake, StakeFalls}, Flow.{◌>>=◌}}
 use Rattle.base_roles.specs.World.{View, slashing, Told, gives, exceeds, World, hooked, noted, burnt, over_view, logged}
-use Rattle.base_roles.proofs.BurnLemmas.{burns_by_amounts, burns_lower_supplies}
-use Rattle.base_roles.proofs.HoldingLemmas.{denom_total}
+use Rattle.base_roles.proofs.{BurnLemmas.{burns_by_amounts, burns_lower_supplies}, HoldingLemmas.denom_total}
 use Rattle.base_roles.proofs.HookLemmas.{Stand-same, stand-noted}
-use Rattle.rule_modules.specs.Answers.{Leaves}
-use Rattle.rule_modules.specs.Slashing.{slash_fraction, slash_told}
-use Rattle.rule_modules.specs.Stakes.{pool_of}
-use Rattle.rule_modules.proofs.SoundLemmas.{to_points}
-use Rattle.rule_modules.proofs.TokenLemmas.{tokens-put, tokens-within}
-use Rattle.mod_staking.specs.Calls.{IsSoundStake, behind_log}
-use Rattle.mod_staking.proofs.GroundLemmas.{keeps-noted}
+use Rattle.base_roles.specs.declared.facts.Fact.TheVariants as fact
+use Rattle.base_roles.specs.Log as log
+use Rattle.rule_modules.specs.{Answers.Leaves, Slashing.{slash_fraction, slash_told}, Stakes.pool_of}
+use Rattle.rule_modules.proofs.{SoundLemmas.to_points, TokenLemmas.{tokens-put, tokens-within}}
+use Rattle.mod_staking.{specs.Calls.{IsSoundStake, behind_log}, proofs.GroundLemmas.keeps-noted}
 use Rattle.mod_slashing.specs.Scenes.{HasTokens}
 
 -- ---- the hook before

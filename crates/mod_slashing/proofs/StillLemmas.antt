@@ -1,18 +1,13 @@
 -- Who still stands, and under which consensus address, once validators changed.
-use Rattle.std.proofs.Common.{◌≡◌, ◌∙◌, ℕ, ◌+◌, Bool, true, false, cond, List, refl, sym, ap, subst, arith}
-use Rattle.std.specs.Prelude.{Option, Some, None, option_map}
+use Rattle.std.proofs.Common.{◌≡◌, ◌∙◌, ℕ, ◌+◌, Bool, true, false, cond, List, refl, sym, ap, subst, arith, Option, Some, None, option_map}
 use Rattle.base_types.specs.declared.status.BondStatus.{BondStatus}
-use Rattle.base_roles.specs.declared.entities.Validator.{Validator}
-use Rattle.base_roles.specs.Orders.{same_addr}
+use Rattle.base_roles.specs.{declared.entities.Validator.Validator, Orders.same_addr}
 use Rattle.base_roles.specs.Staked.{Staked, validator_at, validator_by_cons, put_validator, lists_of, is_bonded, tokens_where, bonded_tokens, other_tokens}
 use Rattle.base_roles.specs.StakeChanges.{but_jailed, StillStand, StillStandByCons, SameButJailed, SameButJailedByCons, IsJailed}
-use Rattle.mod_staking.specs.Calls.{IsSoundStake, with_if, changed_at}
-use Rattle.mod_staking.specs.Registered.{operator_by_cons}
+use Rattle.mod_staking.specs.{Calls.{IsSoundStake, with_if, changed_at}, Registered.operator_by_cons}
 use Rattle.mod_staking.proofs.IndexLemmas.{by_cons-none, by_cons-some, found_by_cons, nobody_has}
 use Rattle.mod_staking.proofs.ListLemmas.{lists-put}
-use Rattle.rule_modules.specs.Slashing.{jailed_of}
-use Rattle.rule_modules.proofs.OrderLemmas.{same_is}
-use Rattle.rule_modules.proofs.TokenLemmas.{tokens-put}
+use Rattle.rule_modules.{specs.Slashing.jailed_of, proofs.{OrderLemmas.same_is, TokenLemmas.tokens-put}}
 use Rattle.rule_modules.proofs.SoundLemmas.{IsSoundAt, to_points, found-put}
 
 some_is : {A : Type 0} (a b : A) → Some a ≡ Some b → a ≡ b

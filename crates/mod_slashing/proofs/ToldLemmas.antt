@@ -1,15 +1,9 @@
 -- How the steps of a slash make up its rule.
-use Rattle.std.proofs.Common.{◌≡◌, ◌∙◌, ℕ, ◌+◌, ◌-◌, false, cond, sym, ap, subst}
-use Rattle.std.specs.Prelude.{Some, Result, Ok, Err}
+use Rattle.std.proofs.Common.{◌≡◌, ◌∙◌, ℕ, ◌+◌, ◌-◌, false, cond, sym, ap, subst, Some, Result, Ok, Err}
 use Rattle.base_decimals.specs.declared.over.Over.{Over}
-use Rattle.base_roles.specs.declared.entities.Validator.{Validator}
-use Rattle.base_roles.specs.declared.faults.HookFault.{HookFault}
-use Rattle.base_roles.specs.Answers.{Follows}
-use Rattle.base_roles.specs.Lent.{FollowsLent, IsAsTold}
-use Rattle.base_roles.specs.Log.{Log}
-use Rattle.base_roles.specs.Staked.{Staked, validator_at, is_unbonded}
-use Rattle.base_roles.specs.Flow.{◌>>=◌}
-use Rattle.base_roles.specs.World.{View, Hook, Told, World}
+use Rattle.base_roles.specs.{declared.{entities.Validator.Validator, faults.HookFault.HookFault}, Answers.Follows}
+use Rattle.base_roles.specs.{Lent.{FollowsLent, IsAsTold}, Log.Log, Staked.{Staked, validator_at, is_unbonded}}
+use Rattle.base_roles.specs.{Flow.{◌>>=◌}, World.{View, Hook, Told, World}}
 use Rattle.rule_modules.specs.Slashing.{Core, EntriesSlash, staked_unbonds, slash_amount, rest_slashed, slashed_at}
 use Rattle.mod_staking.specs.Calls.{behind_log}
 

@@ -1,26 +1,17 @@
 -- What the accounts hold once an amount was delegated from one of them: also what is owed from them besides.
-use Rattle.std.proofs.Common.{◌≡◌, ◌∙◌, ℕ, ◌+◌, ◌<◌, ◌≤◌, ◌==◌, Bool, true, false, cond, List, Option, Some, None, refl, sym, ap, subst, arith}
-use Rattle.std.specs.Prelude.{Ok, Err, Result, unwrap_or, if◌then◌else◌}
+use Rattle.std.proofs.Common.{◌≡◌, ◌∙◌, ℕ, ◌+◌, ◌<◌, ◌≤◌, ◌==◌, Bool, true, false, cond, List, Option, Some, None, refl, sym, ap, subst, arith, Ok, Err, Result, unwrap_or, if◌then◌else◌}
 use Rattle.base_types.specs.declared.account.Account.TheVariants as account
 use Rattle.base_types.specs.declared.account.Module.TheVariants as holder
-use Rattle.base_types.specs.declared.status.BondStatus.{BondStatus}
-use Rattle.base_types.specs.Modules.{module_number}
-use Rattle.base_roles.specs.declared.entities.Validator.{Validator}
-use Rattle.base_roles.specs.declared.params.Ctx.{Ctx}
-use Rattle.base_roles.specs.declared.refusal.Refusal.{Refusal}
-use Rattle.base_roles.specs.declared.refusal.Refusal.TheVariants.{Overflow}
-use Rattle.base_roles.specs.Answers.{Answers, AnswersAs}
-use Rattle.base_roles.specs.Holdings.{balance_of, IsBacked}
-use Rattle.base_roles.specs.Hooks.{Tells, Stand, Keeps, Lawful, after}
-use Rattle.base_roles.specs.Log.{Log}
+use Rattle.base_types.specs.{declared.status.BondStatus.BondStatus, Modules.module_number}
+use Rattle.base_roles.specs.declared.{entities.Validator.Validator, params.Ctx.Ctx, refusal.Refusal.Refusal}
+use Rattle.base_roles.specs.{declared.refusal.Refusal.TheVariants.Overflow, Answers.{Answers, AnswersAs}}
+use Rattle.base_roles.specs.{Holdings.{balance_of, IsBacked}, Hooks.{Tells, Stand, Keeps, Lawful, after}, Log.Log}
 use Rattle.base_roles.specs.Staked.{Staked, validator_at, delegation, put_validator, lists_of, is_bonded, bonded_tokens, other_tokens}
-use Rattle.base_roles.specs.StakeChanges.{HoldsStake}
-use Rattle.base_roles.specs.Flow.{◌>>=◌, stopping}
+use Rattle.base_roles.specs.{StakeChanges.HoldsStake, Flow.{◌>>=◌, stopping}}
 use Rattle.base_roles.specs.World.{View, Hook, Told, gives, exceeds, World, hooked, modified, over_view, over_mine, sent}
 use Rattle.rule_modules.specs.Amounts.{bond_coins}
 use Rattle.rule_modules.specs.Delegating.{Origin, pool, shares_given, paid_in, hook_before, delegated}
-use Rattle.rule_modules.specs.Stakes.{put_delegation, pool_of}
-use Rattle.rule_modules.proofs.SoundLemmas.{IsSoundAt}
+use Rattle.rule_modules.{specs.Stakes.{put_delegation, pool_of}, proofs.SoundLemmas.IsSoundAt}
 use Rattle.mod_staking.specs.Calls.{HasOrigin, PaysAs, over}
 use Rattle.mod_staking.proofs.GroundLemmas.{from_bonded, from_other, IsPaid, paid-accounts, holds-kept, moved_backed}
 use Rattle.mod_staking.proofs.DelegateLemmas.{grown, shares-given, IsGivenShares, stand-before, keeps-before, origin-before, can_pay, reached, IsReached, ready-delegated, tokens-after, keeps-ok}

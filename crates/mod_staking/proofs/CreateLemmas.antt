@@ -1,32 +1,22 @@
 -- Creating a validator: it joins without tokens, and its first hook may be called.
-use Rattle.std.proofs.Common.{◌≡◌, ◌∙◌, ℕ, ◌+◌, ◌^◌, ◌≤◌, ◌==◌, Bool, true, false, cond, None, refl, sym, ap, subst, arith}
-use Rattle.std.specs.Prelude.{Ok, Err, Result, ⊤, ◌||◌, nat_lt, is_some, if◌then◌else◌}
-use Rattle.std.proofs.lemmas.Bool.Decides.{nat_tests}
+use Rattle.std.proofs.Common.{◌≡◌, ◌∙◌, ℕ, ◌+◌, ◌^◌, ◌≤◌, ◌==◌, Bool, true, false, cond, None, refl, sym, ap, subst, arith, Ok, Err, Result, ◌||◌, nat_lt, is_some, if◌then◌else◌}
+use Rattle.std.{specs.Prelude.⊤, proofs.lemmas.Bool.Decides.nat_tests}
 use Rattle.base_types.specs.declared.account.Account.TheVariants as account
 use Rattle.base_types.specs.declared.account.Module.TheVariants as holder
-use Rattle.base_roles.specs.declared.entities.Validator.{Validator}
-use Rattle.base_roles.specs.declared.messages.CreateValidator.{CreateValidator}
+use Rattle.base_roles.specs.declared.{entities.Validator.Validator, messages.CreateValidator.CreateValidator}
 use Rattle.base_roles.specs.declared.refusal.Refusal.{Refusal}
 use Rattle.base_roles.specs.declared.refusal.Refusal.TheVariants.{NonPositive, CommissionRange, MinSelfNotPositive, SelfBelowMinimum, CommissionBelowMinimum, ValidatorExists, ConsKeyExists, WrongDenom, Overflow}
-use Rattle.base_roles.specs.Holdings.{balance_of}
-use Rattle.base_roles.specs.Hooks.{Tells, Stand, Ready}
+use Rattle.base_roles.specs.{Holdings.balance_of, Hooks.{Tells, Stand, Ready}}
 use Rattle.base_roles.specs.Staked.{Staked, validator_at, validator_by_cons, put_validator, lists_of, is_bonded, bonded_tokens, other_tokens}
-use Rattle.base_roles.specs.StakeChanges.{HoldsStake}
-use Rattle.base_roles.specs.declared.faults.MessageFault.{MessageFault}
-use Rattle.base_roles.specs.declared.faults.MessageFault.TheVariants as stop
-use Rattle.base_roles.specs.Answers.{AnswersAs}
-use Rattle.base_roles.specs.Log.{Log}
-use Rattle.base_roles.specs.Flow.{◌>>=◌, ◌>>◌, stop_if, stopping}
+use Rattle.base_roles.specs.{StakeChanges.HoldsStake, declared.faults.MessageFault.MessageFault, Answers.AnswersAs}
+use Rattle.base_roles.specs.{Log.Log, Flow.{◌>>=◌, ◌>>◌, stop_if, stopping}}
 use Rattle.base_roles.specs.World.{View, Hook, Told, gives, World, hooked, created}
-use Rattle.rule_modules.specs.Delegating.{is_wrong, wallet, delegated}
-use Rattle.rule_modules.specs.Validators as rule
-use Rattle.rule_modules.specs.Sound.{ValidatorIsSound}
+use Rattle.base_roles.specs.declared.faults.MessageFault.TheVariants as stop
+use Rattle.rule_modules.specs.{Delegating.{is_wrong, wallet, delegated}, Sound.ValidatorIsSound}
 use Rattle.rule_modules.specs.Validators.{new_validator, are_out_of_range}
-use Rattle.mod_staking.specs.Calls.{HasRates, create_formed, over, behind_log}
-use Rattle.rule_modules.proofs.SoundLemmas.{IsSoundAt}
-use Rattle.mod_staking.proofs.IndexLemmas.{nobody_has}
-use Rattle.rule_modules.proofs.SoundLemmas.{sound-joined}
-use Rattle.rule_modules.proofs.TokenLemmas.{tokens-joined, counted}
+use Rattle.rule_modules.proofs.{SoundLemmas.{IsSoundAt, sound-joined}, TokenLemmas.{tokens-joined, counted}}
+use Rattle.rule_modules.specs.Validators as rule
+use Rattle.mod_staking.{specs.Calls.{HasRates, create_formed, over, behind_log}, proofs.IndexLemmas.nobody_has}
 
 -- none of the conditions of form holds
 formed_all : (a b c d e : Bool) → (stop_if a NonPositive >> (stop_if b CommissionRange >> (stop_if c MinSelfNotPositive >> (stop_if d SelfBelowMinimum >> stop_if e CommissionBelowMinimum)))) ≡ Ok tt

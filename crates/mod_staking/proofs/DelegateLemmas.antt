@@ -1,36 +1,25 @@
 -- The steps of delegating: the hook before, the coins, the new stake, and the hook after.
-use Rattle.std.proofs.Common.{◌≡◌, ◌∙◌, ℕ, ◌+◌, ◌^◌, ◌<◌, ◌≤◌, ◌==◌, Bool, true, false, cond, List, Option, Some, None, refl, sym, ap, subst, arith}
-use Rattle.std.specs.Prelude.{Ok, Err, Result, is_some, unwrap_or, nat_lt, if◌then◌else◌}
+use Rattle.std.proofs.Common.{◌≡◌, ◌∙◌, ℕ, ◌+◌, ◌^◌, ◌<◌, ◌≤◌, ◌==◌, Bool, true, false, cond, List, Option, Some, None, refl, sym, ap, subst, arith, Ok, Err, Result, is_some, unwrap_or, nat_lt, if◌then◌else◌}
 use Rattle.std.proofs.lemmas.Bool.Decides.{nat_tests}
 use Rattle.base_decimals.specs.Decimals.{add_of, sum_over}
 use Rattle.base_types.specs.declared.account.Account.TheVariants as account
 use Rattle.base_types.specs.declared.account.Module.TheVariants as holder
 use Rattle.base_types.specs.declared.status.BondStatus.{BondStatus}
-use Rattle.base_shares.specs.declared.fault.ShareFault.{ShareFault}
-use Rattle.base_shares.specs.Shares.{issued_shares}
+use Rattle.base_shares.specs.{declared.fault.ShareFault.ShareFault, Shares.issued_shares}
 use Rattle.base_roles.specs.declared.entities.Validator.{Validator}
-use Rattle.base_roles.specs.declared.refusal.Refusal.TheVariants.{TinyDelegation, Overflow}
-use Rattle.base_roles.specs.Answers.{Answers}
-use Rattle.base_roles.specs.Entries.{with, without, with_number, number_at}
-use Rattle.base_roles.specs.Holdings.{balance_of, IsBacked}
-use Rattle.base_roles.specs.Hooks.{Tells, Stand, Ready, Keeps, Lawful, after}
-use Rattle.base_roles.specs.Owing.{Lists}
-use Rattle.base_roles.specs.Orders.{pair_cmp}
+use Rattle.base_roles.specs.{declared.refusal.Refusal.TheVariants.{TinyDelegation, Overflow}, Answers.Answers}
+use Rattle.base_roles.specs.{Entries.{with, without, with_number, number_at}, Holdings.{balance_of, IsBacked}}
+use Rattle.base_roles.specs.{Hooks.{Tells, Stand, Ready, Keeps, Lawful, after}, Owing.Lists, Orders.pair_cmp}
 use Rattle.base_roles.specs.Staked.{Staked, validator_at, delegation, put_validator, lists_of, is_bonded, tokens_where, bonded_tokens, other_tokens}
-use Rattle.base_roles.specs.StakeChanges.{HoldsStake}
-use Rattle.base_roles.specs.Flow.{◌>>=◌, ◌>>◌, stop_if, stopping}
-use Rattle.base_roles.specs.World.{View, Hook, modified}
-use Rattle.base_roles.proofs.HookLemmas.{told-of_ok, Stand-after_ok}
+use Rattle.base_roles.specs.{StakeChanges.HoldsStake, Flow.{◌>>=◌, ◌>>◌, stop_if, stopping}}
+use Rattle.base_roles.{specs.World.{View, Hook, modified}, proofs.HookLemmas.{told-of_ok, Stand-after_ok}}
 use Rattle.base_roles.proofs.HoldingLemmas.{balance-most}
 use Rattle.rule_modules.specs.Delegating.{Origin, wallet, pool, shares_given, paid_in, hook_before}
-use Rattle.rule_modules.specs.Sound.{ValidatorIsSound}
-use Rattle.rule_modules.specs.Stakes.{put_delegation, refusal_of_shares}
-use Rattle.mod_staking.specs.Calls.{HasOrigin, CanPay, PaysAs}
-use Rattle.rule_modules.proofs.SoundLemmas.{IsSoundAt}
-use Rattle.rule_modules.proofs.SoundLemmas.{sound-changed, held_within}
-use Rattle.rule_modules.proofs.SoundLemmas.{put_with}
-use Rattle.mod_staking.proofs.ListLemmas.{lists-changed, lists-delegated, itself_started}
+use Rattle.rule_modules.specs.{Sound.ValidatorIsSound, Stakes.{put_delegation, refusal_of_shares}}
+use Rattle.rule_modules.proofs.SoundLemmas.{IsSoundAt, sound-changed, held_within, put_with}
 use Rattle.rule_modules.proofs.TokenLemmas.{tokens-put, tokens-within, counted}
+use Rattle.mod_staking.specs.Calls.{HasOrigin, CanPay, PaysAs}
+use Rattle.mod_staking.proofs.ListLemmas.{lists-changed, lists-delegated, itself_started}
 use Rattle.mod_staking.proofs.GroundLemmas.{IsPaid, from_bonded, from_other, holds-kept, paid-accounts, stand-paid}
 
 -- ---- a hook that answered Ok keeps what no hook changes

@@ -1,12 +1,10 @@
 -- Editing a validator: what an edit leaves of it.
-use Rattle.std.proofs.Common.{◌≡◌, ◌∙◌, ℕ, ◌+◌, ◌-◌, ◌≤◌, Bool, true, false, Option, Some, None, refl, subst, arith}
-use Rattle.std.specs.Prelude.{Ok, Result, nat_lt, nat_le}
+use Rattle.std.proofs.Common.{◌≡◌, ◌∙◌, ℕ, ◌+◌, ◌-◌, ◌≤◌, Bool, true, false, Option, Some, None, refl, subst, arith, Ok, Result, nat_lt, nat_le}
 use Rattle.std.proofs.lemmas.Bool.Decides.{nat_tests}
 use Rattle.base_roles.specs.declared.entities.Validator.{Validator}
 use Rattle.base_roles.specs.declared.refusal.Refusal.TheVariants.{CommissionTooSoon, CommissionAboveMax, CommissionStep, CommissionBelowMinimum, MinSelfNotRaised, SelfBelowMinimum}
 use Rattle.base_roles.specs.Flow.{◌>>◌, stop_if}
-use Rattle.rule_modules.specs.Amounts.{seconds}
-use Rattle.rule_modules.specs.Validators.{rate_edited, minimum_edited}
+use Rattle.rule_modules.specs.{Amounts.seconds, Validators.{rate_edited, minimum_edited}}
 
 -- an edit leaves all of a validator but its rate, which is still no more than its highest, and its least self-delegation
 pub record IsEdited (v w : Validator) : Type 0 where

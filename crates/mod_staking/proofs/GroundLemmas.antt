@@ -1,36 +1,19 @@
 -- The ground, the accounts and the hooks between the steps of a call.
-use Rattle.std.proofs.Common.{◌≡◌, ◌∙◌, ℕ, ◌+◌, ◌^◌, ◌<◌, ◌≤◌, ◌==◌, Bool, true, false, cond, List, [], ◌∷◌, ◌++◌, Some, None, append_assoc, refl, sym, ap, subst, arith}
-use Rattle.std.specs.Prelude.{Ok, ◌||◌, nat_lt, if◌then◌else◌, unwrap_or}
-use Rattle.std.proofs.lemmas.List.Elements.{All-nil, All-cons}
-use Rattle.std.proofs.lemmas.Cmp.{nat_list_cmp_total}
-use Rattle.std.specs.Cmp.{eq_by_cmp_equiv}
-use Rattle.std.specs.List.Sorted.{IsStrictlySortedBy}
-use Rattle.std.proofs.lemmas.Bool.Decides.{nat_tests}
-use Rattle.std.specs.BTreeMap.{is_at}
-use Rattle.base_types.specs.declared.account.Account.{Account}
+use Rattle.std.proofs.Common.{◌≡◌, ◌∙◌, ℕ, ◌+◌, ◌^◌, ◌<◌, ◌≤◌, ◌==◌, Bool, true, false, cond, List, [], ◌∷◌, ◌++◌, Some, None, append_assoc, refl, sym, ap, subst, arith, Ok, ◌||◌, nat_lt, if◌then◌else◌, unwrap_or}
+use Rattle.std.proofs.lemmas.{List.Elements.{All-nil, All-cons}, Cmp.nat_list_cmp_total, Bool.Decides.nat_tests}
+use Rattle.std.specs.{Cmp.eq_by_cmp_equiv, List.Sorted.IsStrictlySortedBy, BTreeMap.is_at}
+use Rattle.base_types.specs.{declared.{account.Account.Account, status.BondStatus.BondStatus}, Modules.module_number}
+use Rattle.base_types.specs.Orders.{account_cmp, denom_cmp}
 use Rattle.base_types.specs.declared.account.Account.TheVariants as account
 use Rattle.base_types.specs.declared.account.Module.TheVariants as holder
-use Rattle.base_types.specs.declared.status.BondStatus.{BondStatus}
-use Rattle.base_types.specs.Modules.{module_number}
-use Rattle.base_types.specs.Orders.{account_cmp, denom_cmp}
 use Rattle.base_coins.specs.Coins.{Money, IsMoney, amount_of}
-use Rattle.base_roles.specs.declared.bank.Ground.{Ground}
-use Rattle.base_roles.specs.declared.facts.Fact.{Fact}
-use Rattle.base_roles.specs.Ground.{CanBeUndone}
-use Rattle.base_roles.specs.Holdings.{IsBacked, balance_of, moved, is_short}
-use Rattle.base_roles.specs.Hooks.{Tells, Stand, Keeps}
-use Rattle.base_roles.specs.Owing.{Lists}
-use Rattle.base_roles.specs.declared.refusal.Refusal.TheVariants.{InsufficientFunds}
-use Rattle.base_roles.specs.Staked.{is_bonded}
-use Rattle.base_roles.specs.StakeChanges.{HoldsStake}
-use Rattle.base_roles.specs.Flow.{◌>>◌, stop_if}
-use Rattle.base_roles.specs.World.{View, sent}
-use Rattle.base_roles.proofs.HookLemmas.{Stand-after_send}
-use Rattle.base_roles.proofs.HoldingLemmas.{balance-most, backed-moved, first_enough}
+use Rattle.base_roles.specs.{declared.{bank.Ground.Ground, facts.Fact.Fact}, Ground.CanBeUndone}
+use Rattle.base_roles.specs.{Holdings.{IsBacked, balance_of, moved, is_short}, Hooks.{Tells, Stand, Keeps}, Owing.Lists}
+use Rattle.base_roles.specs.{declared.refusal.Refusal.TheVariants.InsufficientFunds, Staked.is_bonded}
+use Rattle.base_roles.specs.{StakeChanges.HoldsStake, Flow.{◌>>◌, stop_if}, World.{View, sent}}
+use Rattle.base_roles.proofs.{HookLemmas.Stand-after_send, HoldingLemmas.{balance-most, backed-moved, first_enough}}
 use Rattle.base_roles.proofs.AmountLemmas.{moves_by_amounts}
-use Rattle.rule_modules.specs.Amounts.{bond_coins}
-use Rattle.rule_modules.specs.Delegating.{Origin, wallet, pool, paid_in}
-use Rattle.rule_modules.specs.Stakes.{pool_of}
+use Rattle.rule_modules.specs.{Amounts.bond_coins, Delegating.{Origin, wallet, pool, paid_in}, Stakes.pool_of}
 use Rattle.mod_staking.specs.Calls.{PaysAs, CanPay}
 
 -- ---- coins of the bond denomination

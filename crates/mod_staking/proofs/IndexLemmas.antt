@@ -1,20 +1,10 @@
 -- The first operator of each consensus address, as validators join, change and leave.
-use Rattle.std.proofs.Common.{◌≡◌, ◌∙◌, ℕ, Bool, true, false, cond, List, [], ◌∷◌, Option, Some, None, refl, sym, ap, subst}
-use Rattle.std.specs.Prelude.{find, if◌then◌else◌, IfSome}
-use Rattle.std.specs.declared.cmp.Ordering.{Ordering}
-use Rattle.std.specs.declared.cmp.Ordering.TheVariants.{Less, Equal, Greater}
-use Rattle.std.specs.Ordering.{is_eq, is_lt, match_ordering, ordering_reverse}
-use Rattle.std.specs.List.{AllByRecursion}
-use Rattle.std.specs.List.Sorted.{IsStrictlySortedBy}
-use Rattle.std.specs.Map.{keys_of, values_of, remove_entry}
-use Rattle.std.specs.BTreeMap.{insert_entry, is_at}
-use Rattle.std.proofs.lemmas.Map.{lookup-none}
-use Rattle.std.proofs.lemmas.Map.Entries.{none_below_head}
-use Rattle.base_types.specs.Orders.{addr_cmp, cons_cmp}
-use Rattle.base_roles.specs.declared.entities.Validator.{Validator}
-use Rattle.base_roles.specs.Entries.{at, with, without}
-use Rattle.base_roles.specs.Orders.{same_addr}
-use Rattle.base_types.proofs.MapLemmas.{ascend-taken, at-put, at-taken}
+use Rattle.std.proofs.Common.{◌≡◌, ◌∙◌, ℕ, Bool, true, false, cond, List, [], ◌∷◌, Option, Some, None, refl, sym, ap, subst, find, if◌then◌else◌, IfSome, Ordering, Less, Equal, Greater, is_eq, is_lt}
+use Rattle.std.specs.{Ordering.{match_ordering, ordering_reverse}, List.{AllByRecursion, Sorted.IsStrictlySortedBy}}
+use Rattle.std.specs.{Map.{keys_of, values_of, remove_entry}, BTreeMap.{insert_entry, is_at}}
+use Rattle.std.proofs.lemmas.Map.{lookup-none, Entries.none_below_head}
+use Rattle.base_types.{specs.Orders.{addr_cmp, cons_cmp}, proofs.MapLemmas.{ascend-taken, at-put, at-taken}}
+use Rattle.base_roles.specs.{declared.entities.Validator.Validator, Entries.{at, with, without}, Orders.same_addr}
 use Rattle.mod_staking.specs.Joint.{is_lower, listed}
 use Rattle.mod_staking.specs.Registered.{Validators, Operators, operator_by_cons, IsIndex, AreKeyed, lower_of}
 use Rattle.rule_modules.proofs.OrderLemmas.{addr_total, cons_total, same_is, same_itself, same_back}

@@ -1,22 +1,15 @@
 -- The items of validators and delegations: told apart by their kinds, and with one more.
-use Rattle.std.proofs.Common.{◌≡◌, ◌∙◌, ℕ, List, [], ◌∷◌, Option, Some, None, refl, sym, ap, inl, inr}
-use Rattle.std.specs.Prelude.{is_some, ◌⊎◌}
-use Rattle.std.proofs.lemmas.Map.Keys.{IsDistinct-from_sorted}
-use Rattle.std.specs.List.Sorted.{IsStrictlySortedBy}
-use Rattle.std.specs.Map.{keys_of}
+use Rattle.std.proofs.Common.{◌≡◌, ◌∙◌, ℕ, List, [], ◌∷◌, Option, Some, None, refl, sym, ap, inl, inr, is_some, ◌⊎◌}
+use Rattle.std.{proofs.lemmas.Map.Keys.IsDistinct-from_sorted, specs.{List.Sorted.IsStrictlySortedBy, Map.keys_of}}
 use Rattle.std.specs.BTreeMap.{insert_entry}
 use Rattle.base_types.specs.Orders.{addr_cmp}
-use Rattle.base_roles.specs.declared.entities.Validator.{Validator}
-use Rattle.base_roles.specs.declared.items.Item.{Item}
-use Rattle.base_roles.specs.declared.items.Item.TheVariants as item
-use Rattle.base_roles.specs.Items.{no_validator, HasRoom, IsAdded}
-use Rattle.base_roles.specs.Orders.{pair_cmp}
+use Rattle.base_roles.specs.declared.{entities.Validator.Validator, items.Item.Item}
+use Rattle.base_roles.specs.{Items.{no_validator, HasRoom, IsAdded}, Orders.pair_cmp}
 use Rattle.base_roles.specs.Staked.{Staked, validator_at, put_validator}
-use Rattle.rule_modules.specs.Stakes.{put_delegation}
-use Rattle.rule_modules.proofs.OrderLemmas.{addr_total, pair_total}
+use Rattle.base_roles.specs.declared.items.Item.TheVariants as item
+use Rattle.rule_modules.{specs.Stakes.put_delegation, proofs.OrderLemmas.{addr_total, pair_total}}
 use Rattle.rule_modules.proofs.SoundLemmas.{exact_addr, exact_pair}
-use Rattle.base_records.specs.Kinds.{AreApart}
-use Rattle.base_records.specs.Items.{rows_of, AnyValue, AreFit, IsRowed}
+use Rattle.base_records.specs.{Kinds.AreApart, Items.{rows_of, AnyValue, AreFit, IsRowed}}
 use Rattle.base_records.proofs.KindLemmas.{added-first, added-second}
 use Rattle.base_records.proofs.MemberLemmas.{Member, member, contained, member-left, value_of}
 use Rattle.base_records.proofs.RowedLemmas.{IsOfKind, IsOfOther, rowed}

@@ -1,30 +1,19 @@
 -- What unbonding leaves: of the delegation, of the validator, and of the hooks.
-use Rattle.std.proofs.Common.{◌≡◌, ◌∙◌, ℕ, ◌+◌, ◌-◌, ◌<◌, ◌≤◌, ◌==◌, Bool, true, false, cond, List, [], ◌∷◌, ◌++◌, Some, None, refl, sym, ap, subst, arith}
-use Rattle.std.specs.Prelude.{Ok, ◌||◌, is_some, unwrap_or, if◌then◌else◌}
+use Rattle.std.proofs.Common.{◌≡◌, ◌∙◌, ℕ, ◌+◌, ◌-◌, ◌<◌, ◌≤◌, ◌==◌, Bool, true, false, cond, List, [], ◌∷◌, ◌++◌, Some, None, refl, sym, ap, subst, arith, Ok, ◌||◌, is_some, unwrap_or, if◌then◌else◌}
 use Rattle.std.proofs.lemmas.Bool.Decides.{nat_tests}
 use Rattle.base_decimals.specs.Decimals.{trunc_of}
 use Rattle.base_shares.specs.Shares.{amount_out, value_even_of}
-use Rattle.base_roles.specs.declared.entities.Validator.{Validator}
-use Rattle.base_roles.specs.declared.facts.Fact.TheVariants.{Jailed}
-use Rattle.base_roles.specs.Answers.{Answers}
+use Rattle.base_roles.specs.{declared.{entities.Validator.Validator, facts.Fact.TheVariants.Jailed}, Answers.Answers}
 use Rattle.base_roles.specs.Entries.{with, without, with_number, number_at}
-use Rattle.base_roles.specs.Hooks.{Tells, Stand, Ready, Keeps, Lawful, with_started}
-use Rattle.base_roles.specs.Owing.{Lists}
-use Rattle.base_roles.specs.Log.{Log}
-use Rattle.base_roles.specs.Orders.{pair_cmp}
-use Rattle.base_roles.specs.Staked.{Staked, validator_at, delegation, put_validator, lists_of}
+use Rattle.base_roles.specs.{Hooks.{Tells, Stand, Ready, Keeps, Lawful, with_started}, Owing.Lists, Log.Log}
+use Rattle.base_roles.specs.{Orders.pair_cmp, Staked.{Staked, validator_at, delegation, put_validator, lists_of}}
 use Rattle.base_roles.specs.World.{View, hooked, modifying, modified}
 use Rattle.base_roles.proofs.HookLemmas.{told-of_ok, stand-noted, Stand-after_ok}
-use Rattle.rule_modules.specs.Sound.{ValidatorIsSound}
-use Rattle.rule_modules.specs.Stakes.{put_delegation, without_shares}
-use Rattle.rule_modules.specs.Unbonding.{left_standing}
+use Rattle.rule_modules.specs.{Sound.ValidatorIsSound, Stakes.{put_delegation, without_shares}, Unbonding.left_standing}
+use Rattle.rule_modules.proofs.SoundLemmas.{IsSoundAt, sound-changed, found_itself, sound-put}
 use Rattle.mod_staking.specs.Calls.{behind_log, jailed_if, jail_noted}
-use Rattle.rule_modules.proofs.SoundLemmas.{IsSoundAt}
-use Rattle.rule_modules.proofs.SoundLemmas.{sound-changed}
-use Rattle.rule_modules.proofs.SoundLemmas.{found_itself, sound-put}
 use Rattle.mod_staking.proofs.ListLemmas.{lists-changed, lists-put, started-twice, itself_started}
-use Rattle.mod_staking.proofs.GroundLemmas.{keeps-noted}
-use Rattle.mod_staking.proofs.DelegateLemmas.{ready-before, keeps-ok, held-most}
+use Rattle.mod_staking.proofs.{GroundLemmas.keeps-noted, DelegateLemmas.{ready-before, keeps-ok, held-most}}
 use Rattle.mod_staking.proofs.UnbondLemmas.{now_of, less_of, ok_world, hooked_ok}
 
 -- ---- a validator that is jailed, if so

@@ -1,23 +1,14 @@
 -- The operators and started pairs for which hooks are to stand, as validators and delegations change.
-use Rattle.std.proofs.Common.{◌≡◌, ◌∙◌, ℕ, ◌==◌, Bool, true, false, cond, List, Option, Some, None, refl, sym, ap}
-use Rattle.std.specs.Prelude.{◌&&◌, is_some, if◌then◌else◌}
-use Rattle.std.specs.List.Sorted.{IsStrictlySortedBy}
-use Rattle.std.specs.Map.{keys_of}
-use Rattle.std.specs.BTreeMap.{is_at}
+use Rattle.std.proofs.Common.{◌≡◌, ◌∙◌, ℕ, ◌==◌, Bool, true, false, cond, List, Option, Some, None, refl, sym, ap, ◌&&◌, is_some, if◌then◌else◌}
+use Rattle.std.specs.{List.Sorted.IsStrictlySortedBy, Map.keys_of, BTreeMap.is_at}
 use Rattle.base_types.specs.Orders.{addr_cmp}
-use Rattle.base_roles.specs.declared.entities.Validator.{Validator}
-use Rattle.base_roles.specs.Entries.{at, with_number}
-use Rattle.base_roles.specs.Hooks.{with_operator, with_started, after}
-use Rattle.base_roles.specs.Owing.{Lists}
-use Rattle.base_roles.specs.Orders.{pair_cmp, same_addr}
-use Rattle.base_roles.specs.Staked.{Staked, validator_at, put_validator, lists_of}
-use Rattle.base_roles.specs.World.{modified}
-use Rattle.rule_modules.specs.Delegating.{hook_before}
-use Rattle.rule_modules.specs.Stakes.{without_validator}
+use Rattle.base_roles.specs.{declared.entities.Validator.Validator, Entries.{at, with_number}}
+use Rattle.base_roles.specs.{Hooks.{with_operator, with_started, after}, Owing.Lists, Orders.{pair_cmp, same_addr}}
+use Rattle.base_roles.specs.{Staked.{Staked, validator_at, put_validator, lists_of}, World.modified}
+use Rattle.rule_modules.specs.{Delegating.hook_before, Stakes.without_validator}
 use Rattle.rule_modules.proofs.OrderLemmas.{same_is, same_itself, same_back, pair_found}
+use Rattle.rule_modules.proofs.SoundLemmas.{at-number, put_with, found-put}
 use Rattle.mod_staking.proofs.SoundLemmas.{found-taken}
-use Rattle.rule_modules.proofs.SoundLemmas.{at-number}
-use Rattle.rule_modules.proofs.SoundLemmas.{put_with, found-put}
 
 swapped : (a b c d : Bool) → a ≡ b → c ≡ d → (a && c) ≡ (d && b)
 swapped a b c d e f = (λ i. e i && f i) ∙ order b d

@@ -1,33 +1,17 @@
 -- The three lists beside the table of validators, as marks are opened and closed and as a validator changes.
-use Rattle.std.proofs.Common.{◌≡◌, ◌∙◌, ℕ, ◌+◌, ◌<◌, ◌≤◌, Bool, true, false, cond, List, [], ◌∷◌, ◌++◌, Option, Some, None, length, refl, sym, ap, subst, rules}
-use Rattle.std.specs.Prelude.{map}
-use Rattle.std.specs.declared.cmp.Ordering.{Ordering}
-use Rattle.std.specs.declared.cmp.Ordering.TheVariants.{Less, Equal, Greater}
-use Rattle.std.specs.BTreeMap.{is_at}
-use Rattle.std.specs.Cmp.{IsTotalOrder, on_total, then_total}
-use Rattle.std.specs.Cmp.Rules.{comparing}
-use Rattle.std.proofs.lemmas.Cmp.{nat_cmp_total}
-use Rattle.std.specs.List.Sorted.{IsStrictlySortedBy}
-use Rattle.std.specs.Map.{keys_of}
-use Rattle.std.specs.Ordering.{ordering_then, nat_cmp}
-use Rattle.std.proofs.lemmas.List.{map-append, length-map}
+use Rattle.std.proofs.Common.{◌≡◌, ◌∙◌, ℕ, ◌+◌, ◌<◌, ◌≤◌, Bool, true, false, cond, List, [], ◌∷◌, ◌++◌, Option, Some, None, length, refl, sym, ap, subst, rules, map, Ordering, Less, Equal, Greater, nat_cmp}
+use Rattle.std.specs.{BTreeMap.is_at, Cmp.{IsTotalOrder, on_total, then_total, Rules.comparing}}
+use Rattle.std.specs.{List.Sorted.IsStrictlySortedBy, Map.keys_of, Ordering.ordering_then}
+use Rattle.std.proofs.lemmas.{Cmp.nat_cmp_total, List.{map-append, length-map}}
 use Rattle.std.proofs.lemmas.Map.Lookups.{exact_bytes, exact_unsigned}
-use Rattle.base_types.specs.Orders.{addr_cmp}
-use Rattle.base_types.proofs.MapLemmas.{at-put, at-taken, ascend-put, ascend-taken}
+use Rattle.base_types.{specs.Orders.addr_cmp, proofs.MapLemmas.{at-put, at-taken, ascend-put, ascend-taken}}
 use Rattle.base_table.specs.Tabled.{Tabled, empty_table, with_mark, IsGoneBack, IsForgotten}
-use Rattle.base_roles.specs.declared.entities.Validator.{Validator}
-use Rattle.base_roles.specs.Entries.{at}
-use Rattle.base_roles.specs.Orders.{same_addr}
-use Rattle.base_roles.specs.Staked.{is_bonded}
-use Rattle.rule_modules.specs.BondedSet.{is_able, power_of}
-use Rattle.rule_modules.specs.Stakes.{is_unbonding}
-use Rattle.rule_modules.proofs.OrderLemmas.{addr_total}
-use Rattle.mod_staking.specs.declared.places.Standing.{Standing}
-use Rattle.mod_staking.specs.declared.lists.Lists.{Lists}
+use Rattle.base_roles.specs.{declared.entities.Validator.Validator, Entries.at, Orders.same_addr, Staked.is_bonded}
+use Rattle.rule_modules.{specs.{BondedSet.{is_able, power_of}, Stakes.is_unbonding}, proofs.OrderLemmas.addr_total}
+use Rattle.mod_staking.specs.declared.{places.Standing.Standing, lists.Lists.Lists}
 use Rattle.mod_staking.specs.Listed.{Validators, with_or_without}
 use Rattle.mod_staking.specs.Places.{standing, standing_cmp, time_cmp, power_place, bonded_place, maturing_place, IsPlaced, place_in, moved_place, operators_in_order, IsListed, AreListed, AreMoved, HaveMarksOf}
-use Rattle.mod_staking.specs.Registered.{AreKeyed}
-use Rattle.mod_staking.proofs.IndexLemmas.{keyed-put, keyed-removed}
+use Rattle.mod_staking.{specs.Registered.AreKeyed, proofs.IndexLemmas.{keyed-put, keyed-removed}}
 use Rattle.mod_staking.proofs.PlaceLemmas.{operators-moved}
 
 -- ---- the orders

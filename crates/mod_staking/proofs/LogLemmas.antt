@@ -1,17 +1,13 @@
 -- The log is only an output of unbonding: behind any log the same is answered and left.
-use Rattle.std.proofs.Common.{◌≡◌, ◌∙◌, ℕ, ◌-◌, ◌==◌, Bool, true, false, cond, List, Option, Some, None, refl, sym, ap, subst}
-use Rattle.std.specs.Prelude.{Ok, Err, Result, ◌||◌, ◌&&◌}
+use Rattle.std.proofs.Common.{◌≡◌, ◌∙◌, ℕ, ◌-◌, ◌==◌, Bool, true, false, cond, List, Option, Some, None, refl, sym, ap, subst, Ok, Err, Result, ◌||◌, ◌&&◌}
 use Rattle.base_decimals.specs.declared.over.Over.{Over}
 use Rattle.base_shares.specs.Shares.{amount_out}
-use Rattle.base_roles.specs.declared.entities.Validator.{Validator}
-use Rattle.base_roles.specs.declared.facts.Fact.TheVariants as fact
-use Rattle.base_roles.specs.declared.faults.HookFault.{HookFault}
-use Rattle.base_roles.specs.Answers.{Follows, ExceedsAs}
-use Rattle.base_roles.specs.Log.{Log}
-use Rattle.base_roles.specs.Log as log
-use Rattle.base_roles.specs.Staked.{Staked, validator_at, delegation, put_validator, is_unbonded}
-use Rattle.base_roles.specs.Flow.{◌>>=◌}
+use Rattle.base_roles.specs.declared.{entities.Validator.Validator, faults.HookFault.HookFault}
+use Rattle.base_roles.specs.{Answers.{Follows, ExceedsAs}, Log.Log}
+use Rattle.base_roles.specs.{Staked.{Staked, validator_at, delegation, put_validator, is_unbonded}, Flow.{◌>>=◌}}
 use Rattle.base_roles.specs.World.{View, Hook, Told, gives, exceeds, World, hooked, call, modifying, modified, removed, noted, over_view, over_mine, logged}
+use Rattle.base_roles.specs.declared.facts.Fact.TheVariants as fact
+use Rattle.base_roles.specs.Log as log
 use Rattle.rule_modules.specs.Stakes.{without_validator, put_delegation, without_shares}
 use Rattle.rule_modules.specs.Unbonding.{falls_below_minimum, put_in_jail, left_standing, removed_if_empty, unbonded_shares, unbonded_of, shares_unbonded}
 use Rattle.mod_staking.specs.Calls.{over, behind_log}

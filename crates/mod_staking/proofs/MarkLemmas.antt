@@ -1,15 +1,14 @@
 -- Three tables that are marked together, seen as one.
-use Rattle.std.proofs.Common.{◌≡◌, ◌≢◌, ◌∙◌, ℕ, ◌+◌, ◌<◌, Bool, List, [], ◌∷◌, ◌++◌, length, sym, ap, subst}
-use Rattle.std.specs.Prelude.{suc, zero}
+use Rattle.std.proofs.Common.{◌≡◌, ◌≢◌, ◌∙◌, ℕ, ◌+◌, ◌<◌, Bool, List, [], ◌∷◌, ◌++◌, length, sym, ap, subst, suc, zero}
 use Rattle.std.specs.List.{range_with_len, AllByRecursion}
 use Rattle.base_table.specs.Tabled.{Tabled}
 use Rattle.base_table.specs.Tabled as table
 use Rattle.mod_staking.specs.Listed.{Listed}
+use Rattle.mod_staking.specs.Registered.{Validators, Delegations, Operators, IsIndex, AreIndexed, AreKeyed, HaveSameMarks, staked_of, registered, with_mark, IsGoneBack, IsForgotten}
 use Rattle.mod_staking.specs.Listed as listed
 use Rattle.base_roles.specs.declared.entities.Validator.{Validator}
 use Rattle.base_records.specs.Marks.{side_by_side}
 use Rattle.base_records.proofs.MarkLemmas.{some_marks, none_from_length, pushed_length, popped_length, length-side, side-push, all-push, all-pop, each_mark-push, each_mark-pop}
-use Rattle.mod_staking.specs.Registered.{Validators, Delegations, Operators, IsIndex, AreIndexed, AreKeyed, HaveSameMarks, staked_of, registered, with_mark, IsGoneBack, IsForgotten}
 
 -- ---- three tables in step
 

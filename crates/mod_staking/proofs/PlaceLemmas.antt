@@ -1,31 +1,16 @@
 -- Validators in the order of their places, as validators are put and taken.
-use Rattle.std.proofs.Common.{◌≡◌, ◌∙◌, ℕ, Bool, true, false, cond, List, [], ◌∷◌, ◌++◌, Option, Some, None, refl, sym, ap, subst}
-use Rattle.std.specs.Prelude.{◌&&◌, map, option_map}
-use Rattle.std.specs.declared.cmp.Ordering.{Ordering}
-use Rattle.std.specs.declared.cmp.Ordering.TheVariants.{Less, Equal, Greater}
-use Rattle.std.specs.declared.ops.Bound.TheVariants.{Excluded, Unbounded}
-use Rattle.std.specs.BTreeMap.{is_at}
-use Rattle.std.specs.BTreeMap.Range.{entries_between}
-use Rattle.std.specs.Cmp.{IsTotalOrder, tied_itself, eq_by_cmp_equiv}
-use Rattle.std.specs.List.{filter}
-use Rattle.std.specs.List.Sorted.{IsStrictlySortedBy}
-use Rattle.std.specs.Map.{keys_of, lookup, lookup_entry}
-use Rattle.std.specs.Ordering.{is_eq, is_lt}
-use Rattle.std.proofs.lemmas.Map.{lookup-none}
-use Rattle.std.proofs.lemmas.Map.Entries.{none_past_head}
+use Rattle.std.proofs.Common.{◌≡◌, ◌∙◌, ℕ, Bool, true, false, cond, List, [], ◌∷◌, ◌++◌, Option, Some, None, refl, sym, ap, subst, ◌&&◌, map, option_map, Ordering, Less, Equal, Greater, filter, is_eq, is_lt}
+use Rattle.std.specs.{declared.ops.Bound.TheVariants.{Excluded, Unbounded}, BTreeMap.{is_at, Range.entries_between}}
+use Rattle.std.specs.{Cmp.{IsTotalOrder, tied_itself, eq_by_cmp_equiv}, List.Sorted.IsStrictlySortedBy}
+use Rattle.std.{specs.Map.{keys_of, lookup, lookup_entry}, proofs.lemmas.Map.{lookup-none, Entries.none_past_head}}
 use Rattle.std.proofs.lemmas.Map.Keys.{sorted_tail, IsDistinct-from_sorted}
-use Rattle.base_types.specs.Orders.{addr_cmp}
-use Rattle.base_types.proofs.MapLemmas.{equal, ascend-put, ascend-taken, at-put, at-taken}
-use Rattle.base_table.proofs.EntryLemmas.{same_entries}
-use Rattle.base_table.specs.Tabled.{first_of, entry_above}
-use Rattle.base_roles.specs.declared.entities.Validator.{Validator}
-use Rattle.base_roles.specs.Entries.{at}
-use Rattle.base_roles.specs.Orders.{same_addr}
+use Rattle.base_types.{specs.Orders.addr_cmp, proofs.MapLemmas.{equal, ascend-put, ascend-taken, at-put, at-taken}}
+use Rattle.base_table.{proofs.EntryLemmas.same_entries, specs.Tabled.{first_of, entry_above}}
+use Rattle.base_roles.specs.{declared.entities.Validator.Validator, Entries.at, Orders.same_addr}
 use Rattle.rule_modules.proofs.OrderLemmas.{addr_total, same_is, same_itself}
 use Rattle.mod_staking.specs.Listed.{Validators}
 use Rattle.mod_staking.specs.Places.{with_if, without_if, is_same_place, moved_place, place_in, in_order, operators_in_order}
-use Rattle.mod_staking.specs.Registered.{AreKeyed}
-use Rattle.mod_staking.proofs.IndexLemmas.{keyed_found}
+use Rattle.mod_staking.{specs.Registered.AreKeyed, proofs.IndexLemmas.keyed_found}
 
 -- ---- lists in the order of their keys
 

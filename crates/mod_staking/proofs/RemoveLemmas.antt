@@ -1,15 +1,10 @@
 -- Removing a validator: its last hook may be called, and exceeds nothing where hooks are sure.
-use Rattle.std.proofs.Common.{◌≡◌, ℕ, true, Some, refl, ap}
-use Rattle.std.specs.Prelude.{Err, is_some}
+use Rattle.std.proofs.Common.{◌≡◌, ℕ, true, Some, refl, ap, Err, is_some}
 use Rattle.base_decimals.specs.declared.over.Over.{Over}
-use Rattle.base_roles.specs.declared.entities.Validator.{Validator}
-use Rattle.base_roles.specs.declared.faults.HookFault.{HookFault}
+use Rattle.base_roles.specs.{declared.{entities.Validator.Validator, faults.HookFault.HookFault}, Answers.Answers}
+use Rattle.base_roles.specs.{Hooks.{Tells, Stand, Ready, Lawful, IsGiven}, Owing.Lists}
+use Rattle.base_roles.specs.{Staked.{Staked, validator_at, lists_of}, World.{View, Told, gives, exceeds, removed}}
 use Rattle.base_roles.specs.declared.faults.HookFault.TheVariants as hook
-use Rattle.base_roles.specs.Answers.{Answers}
-use Rattle.base_roles.specs.Hooks.{Tells, Stand, Ready, Lawful, IsGiven}
-use Rattle.base_roles.specs.Owing.{Lists}
-use Rattle.base_roles.specs.Staked.{Staked, validator_at, lists_of}
-use Rattle.base_roles.specs.World.{View, Told, gives, exceeds, removed}
 use Rattle.rule_modules.proofs.SoundLemmas.{IsSoundAt}
 use Rattle.mod_staking.proofs.SoundLemmas.{no_shares}
 

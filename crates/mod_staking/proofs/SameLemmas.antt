@@ -1,14 +1,8 @@
 -- Whether two validators are one, field by field.
-use Rattle.std.specs.Prelude.{◌≡◌, ℕ, ◌==◌, ◌&&◌, Bool, true, false, List, refl}
-use Rattle.std.specs.Str.{bytes_eq}
-use Rattle.std.proofs.Common.{sym, ◌∙◌, ap, arith}
-use Rattle.std.proofs.lemmas.Bool.Decides.{nat_tests}
-use Rattle.std.proofs.lemmas.Map.Text.{is_eq-slice_cmp}
-use Rattle.std.proofs.lemmas.Map.Lookups.{exact_bytes}
-use Rattle.base_types.specs.declared.status.BondStatus.{BondStatus}
-use Rattle.base_types.specs.declared.status.BondStatus.TheVariants.{Bonded, Unbonding, Unbonded}
-use Rattle.base_roles.specs.declared.entities.Commission.{Commission}
-use Rattle.base_roles.specs.declared.entities.Validator.{Validator}
+use Rattle.std.proofs.Common.{◌≡◌, ℕ, ◌==◌, ◌&&◌, Bool, true, false, List, refl, bytes_eq, sym, ◌∙◌, ap, arith}
+use Rattle.std.proofs.lemmas.{Bool.Decides.nat_tests, Map.{Text.is_eq-slice_cmp, Lookups.exact_bytes}}
+use Rattle.base_types.specs.declared.status.BondStatus.{BondStatus, TheVariants.{Bonded, Unbonding, Unbonded}}
+use Rattle.base_roles.specs.declared.entities.{Commission.Commission, Validator.Validator}
 use Rattle.base_records.proofs.SameLemmas.{both, number, number_itself, four, four_itself, bytes, bytes_itself}
 use Rattle.mod_staking.specs.Items.{same_flag, same_status, same_commission, same_validator, same_shares}
 use Rattle.rule_modules.proofs.OrderLemmas.{equal, same_itself}

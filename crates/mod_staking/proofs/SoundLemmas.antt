@@ -1,19 +1,12 @@
 -- Validators and delegations stay sound as they change.
-use Rattle.std.proofs.Common.{◌≡◌, ◌∙◌, ℕ, ◌+◌, ◌-◌, ◌^◌, ◌≤◌, Bool, true, false, cond, List, Option, Some, None, refl, sym, ap, subst, arith}
-use Rattle.std.specs.Prelude.{IsSome, unwrap_or}
-use Rattle.std.specs.List.Sorted.{IsStrictlySortedBy}
-use Rattle.std.specs.Map.{keys_of}
-use Rattle.std.specs.BTreeMap.{is_at}
-use Rattle.base_types.specs.Orders.{addr_cmp}
-use Rattle.base_roles.specs.declared.entities.Validator.{Validator}
-use Rattle.base_roles.specs.Entries.{at, number_at}
-use Rattle.base_roles.specs.Orders.{pair_cmp, same_addr}
-use Rattle.base_roles.specs.Staked.{Staked, validator_at, delegation, put_validator}
-use Rattle.rule_modules.specs.Stakes.{without_validator}
-use Rattle.base_types.proofs.MapLemmas.{ascend-taken, at-taken}
-use Rattle.mod_staking.specs.Calls.{IsSoundStake}
-use Rattle.rule_modules.proofs.OrderLemmas.{addr_total, same_is}
+use Rattle.std.proofs.Common.{◌≡◌, ◌∙◌, ℕ, ◌+◌, ◌-◌, ◌^◌, ◌≤◌, Bool, true, false, cond, List, Option, Some, None, refl, sym, ap, subst, arith, IsSome, unwrap_or}
+use Rattle.std.specs.{List.Sorted.IsStrictlySortedBy, Map.keys_of, BTreeMap.is_at}
+use Rattle.base_types.{specs.Orders.addr_cmp, proofs.MapLemmas.{ascend-taken, at-taken}}
+use Rattle.base_roles.specs.{declared.entities.Validator.Validator, Entries.{at, number_at}}
+use Rattle.base_roles.specs.{Orders.{pair_cmp, same_addr}, Staked.{Staked, validator_at, delegation, put_validator}}
+use Rattle.rule_modules.{specs.Stakes.without_validator, proofs.OrderLemmas.{addr_total, same_is}}
 use Rattle.rule_modules.proofs.SoundLemmas.{IsSoundAt, to_points, from_points, sound-put, held_within, later}
+use Rattle.mod_staking.specs.Calls.{IsSoundStake}
 
 -- ---- look-ups after a change
 

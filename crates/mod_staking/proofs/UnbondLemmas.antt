@@ -1,17 +1,12 @@
 -- Unbonding shares: the rule step by step, and what each step leaves.
-use Rattle.std.proofs.Common.{◌≡◌, ◌∙◌, ℕ, ◌-◌, Bool, true, false, List, [], ◌∷◌, ◌++◌, refl, sym, ap, subst}
-use Rattle.std.specs.Prelude.{Ok, Err, Result, ◌||◌, if◌then◌else◌}
+use Rattle.std.proofs.Common.{◌≡◌, ◌∙◌, ℕ, ◌-◌, Bool, true, false, List, [], ◌∷◌, ◌++◌, refl, sym, ap, subst, Ok, Err, Result, ◌||◌, if◌then◌else◌}
 use Rattle.base_decimals.specs.declared.over.Over.{Over}
 use Rattle.base_shares.specs.Shares.{amount_out}
-use Rattle.base_roles.specs.declared.entities.Validator.{Validator}
-use Rattle.base_roles.specs.declared.faults.HookFault.{HookFault}
-use Rattle.base_roles.specs.declared.faults.HookFault.TheVariants as hook
-use Rattle.base_roles.specs.Answers.{Follows}
-use Rattle.base_roles.specs.Log.{Log}
-use Rattle.base_roles.specs.Log as log
-use Rattle.base_roles.specs.Staked.{Staked, put_validator}
-use Rattle.base_roles.specs.Flow.{◌>>=◌}
+use Rattle.base_roles.specs.{declared.{entities.Validator.Validator, faults.HookFault.HookFault}, Answers.Follows}
+use Rattle.base_roles.specs.{Log.Log, Staked.{Staked, put_validator}, Flow.{◌>>=◌}}
 use Rattle.base_roles.specs.World.{View, Hook, Told, gives, exceeds, World, hooked, modifying, over_mine, logged}
+use Rattle.base_roles.specs.declared.faults.HookFault.TheVariants as hook
+use Rattle.base_roles.specs.Log as log
 use Rattle.rule_modules.specs.Answers.{WantsMemory, Leaves}
 use Rattle.rule_modules.specs.Unbonding.{falls_below_minimum, put_in_jail, left_standing, removed_if_empty, unbonded_shares}
 use Rattle.mod_staking.specs.Calls.{over, behind_log, jailed_if, jail_noted}

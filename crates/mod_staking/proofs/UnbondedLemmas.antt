@@ -1,33 +1,19 @@
 -- What unbonding leaves of validators and delegations, operator by operator and delegation by delegation.
-use Rattle.std.proofs.Common.{◌≡◌, ◌∙◌, ℕ, ◌+◌, ◌-◌, ◌≤◌, ◌==◌, Bool, true, false, cond, List, Option, Some, None, refl, sym, ap, subst, arith}
-use Rattle.std.specs.Prelude.{Ok, Result, ◌||◌, ◌&&◌, not, if◌then◌else◌}
-use Rattle.std.proofs.lemmas.Bool.Decides.{nat_tests}
-use Rattle.std.specs.List.Sorted.{IsStrictlySortedBy}
-use Rattle.std.specs.Map.{keys_of}
+use Rattle.std.proofs.Common.{◌≡◌, ◌∙◌, ℕ, ◌+◌, ◌-◌, ◌≤◌, ◌==◌, Bool, true, false, cond, List, Option, Some, None, refl, sym, ap, subst, arith, Ok, Result, ◌||◌, ◌&&◌, not, if◌then◌else◌}
+use Rattle.std.{proofs.lemmas.Bool.Decides.nat_tests, specs.{List.Sorted.IsStrictlySortedBy, Map.keys_of}}
 use Rattle.base_decimals.specs.declared.over.Over.{Over}
 use Rattle.base_shares.specs.Shares.{amount_out}
-use Rattle.base_types.specs.declared.status.BondStatus.{BondStatus}
-use Rattle.base_types.specs.Orders.{addr_cmp}
-use Rattle.base_roles.specs.declared.entities.Validator.{Validator}
-use Rattle.base_roles.specs.declared.facts.Fact.TheVariants.{Removed}
-use Rattle.base_roles.specs.Entries.{at, with_number}
-use Rattle.base_roles.specs.Log.{Log}
-use Rattle.base_roles.specs.Orders.{pair_cmp, same_addr}
+use Rattle.base_types.specs.{declared.status.BondStatus.BondStatus, Orders.addr_cmp}
+use Rattle.base_roles.specs.declared.{entities.Validator.Validator, facts.Fact.TheVariants.Removed}
+use Rattle.base_roles.specs.{Entries.{at, with_number}, Log.Log, Orders.{pair_cmp, same_addr}}
 use Rattle.base_roles.specs.Staked.{Staked, validator_at, delegation, put_validator, is_bonded, is_unbonded, tokens_where, bonded_tokens, other_tokens}
-use Rattle.base_roles.specs.StakeChanges.{shares_left, validator_left, IsUnbonded}
-use Rattle.base_roles.specs.Flow.{◌>>=◌}
+use Rattle.base_roles.specs.{StakeChanges.{shares_left, validator_left, IsUnbonded}, Flow.{◌>>=◌}}
 use Rattle.base_roles.specs.World.{View, Hook, Told, gives, exceeds, World, hooked, removed, noted, over_view}
-use Rattle.rule_modules.specs.Answers.{Leaves}
-use Rattle.rule_modules.specs.Stakes.{without_validator}
+use Rattle.rule_modules.specs.{Answers.Leaves, Stakes.without_validator}
 use Rattle.rule_modules.specs.Unbonding.{removed_if_empty, falls_below_minimum}
-use Rattle.mod_staking.specs.Calls.{behind_log, jailed_if}
-use Rattle.rule_modules.proofs.OrderLemmas.{same_back, same_itself}
-use Rattle.rule_modules.proofs.SoundLemmas.{IsSoundAt}
-use Rattle.mod_staking.proofs.SoundLemmas.{found-taken}
-use Rattle.rule_modules.proofs.SoundLemmas.{at-number}
-use Rattle.rule_modules.proofs.SoundLemmas.{found-put}
-use Rattle.mod_staking.proofs.ListLemmas.{pair_is}
+use Rattle.rule_modules.proofs.{OrderLemmas.{same_back, same_itself}, SoundLemmas.{IsSoundAt, at-number, found-put}}
 use Rattle.rule_modules.proofs.TokenLemmas.{tokens-put, tokens-left}
+use Rattle.mod_staking.{specs.Calls.{behind_log, jailed_if}, proofs.{SoundLemmas.found-taken, ListLemmas.pair_is}}
 use Rattle.mod_staking.proofs.UnbondLemmas.{now_of, less_of, ok_world, leaves_is, leaves_picked}
 use Rattle.mod_staking.proofs.LeftLemmas.{state_left, sound_now, sound_less, same_delegations, found_now, all_gone, held_few}
 

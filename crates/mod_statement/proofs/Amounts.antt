@@ -1,17 +1,11 @@
 -- Amounts that are each at most what a function gives.
-use Rattle.std.proofs.Common.{◌≡◌, ℕ, ◌+◌, ◌≤◌, ◌&&◌, Bool, true, false, List, [], ◌∷◌, map, refl, sym, ap, ◌∙◌, subst, arith}
-use Rattle.std.specs.Prelude.{nat_le, ◌↔◌, IsTrue}
-use Rattle.std.specs.List.{list_all}
-use Rattle.std.specs.BTreeMap.{is_at}
-use Rattle.std.proofs.lemmas.Bool.{and_parts, and_from, leb-true, le-leb}
+use Rattle.std.proofs.Common.{◌≡◌, ℕ, ◌+◌, ◌≤◌, ◌&&◌, Bool, true, false, List, [], ◌∷◌, map, refl, sym, ap, ◌∙◌, subst, arith, nat_le, ◌↔◌, IsTrue, leb-true, le-leb}
+use Rattle.std.{specs.{List.list_all, BTreeMap.is_at}, proofs.lemmas.Bool.{and_parts, and_from}}
 use Rattle.base_types.specs.Orders.{denom_cmp}
-use Rattle.base_coins.specs.declared.coin.DecCoin.{DecCoin}
-use Rattle.base_coins.specs.Coins.{Money, IsMoney, amount_of}
-use Rattle.mod_statement.specs.declared.bounds.Bounds.{Bounds}
-use Rattle.mod_statement.specs.declared.statement.Statement.{Statement}
-use Rattle.mod_statement.specs.Answers.{IsRight}
+use Rattle.base_coins.specs.{declared.coin.DecCoin.DecCoin, Coins.{Money, IsMoney, amount_of}}
 use Rattle.base_coins.proofs.Order.{Rises, same_name, amount-above, amount-first, rises_from_money}
 use Rattle.base_coins.proofs.Amounts.{itself, is_equal, amount-first_other, same_list}
+use Rattle.mod_statement.specs.{declared.{bounds.Bounds.Bounds, statement.Statement.Statement}, Answers.IsRight}
 
 -- each coin is
 abbrev pub are_within : (List ℕ → ℕ) → Money → Bool

@@ -1,26 +1,16 @@
 -- The bounds of a span from its sums and its slack, and the bounds of entries from those of their span.
-use Rattle.std.proofs.Common.{◌≡◌, ℕ, Bool, true, false, List, [], ◌∷◌, refl, sym, ap, ◌∙◌, subst}
-use Rattle.std.specs.Prelude.{Option, Some, None, Result, Ok, Err, All, if◌then◌else◌, nat_lt, nat_le, ◌&&◌}
-use Rattle.std.proofs.Common.{◌^◌}
+use Rattle.std.proofs.Common.{◌≡◌, ℕ, Bool, true, false, List, [], ◌∷◌, refl, sym, ap, ◌∙◌, subst, Option, Some, None, Result, Ok, Err, All, if◌then◌else◌, nat_lt, nat_le, ◌&&◌, ◌^◌}
 use Rattle.std.proofs.lemmas.List.Elements.{All-cons}
 use Rattle.base_decimals.specs.declared.over.Over.{Over}
-use Rattle.base_coins.specs.declared.fault.CoinFault.{CoinFault}
+use Rattle.base_coins.specs.{declared.fault.CoinFault.CoinFault, Steps.{◌>>=◌}, Coins.Money}
 use Rattle.base_coins.specs.declared.fault.CoinFault.TheVariants as coin
-use Rattle.base_coins.specs.Steps.{◌>>=◌}
-use Rattle.base_coins.specs.Coins.{Money}
-use Rattle.mod_statement.specs.declared.entry.Entry.{Entry}
-use Rattle.mod_statement.specs.declared.entry.Entry.TheVariants.{Started, Allocated, Ended, Slashed, Touched}
-use Rattle.mod_statement.specs.declared.bounds.Bounds.{Bounds}
-use Rattle.mod_statement.specs.declared.fault.StatementFault.TheVariants as fault
-use Rattle.mod_statement.specs.declared.stakes.Stakes.{Stakes}
-use Rattle.mod_statement.specs.declared.sums.Sums.{Sums}
+use Rattle.mod_statement.specs.declared.entry.Entry.{Entry, TheVariants.{Started, Allocated, Ended, Slashed, Touched}}
+use Rattle.mod_statement.specs.declared.{bounds.Bounds.Bounds, stakes.Stakes.Stakes, sums.Sums.Sums}
 use Rattle.mod_statement.specs.Entries.{HasMoney, is_rest, span_from, span_of, stakes_worth}
-use Rattle.mod_statement.specs.Sums.{no_sums, sums_over}
-use Rattle.mod_statement.specs.Slack.{slack_coins}
-use Rattle.mod_statement.specs.Bounds.{bounds_of, bounds_of_span, bounds_over, or_over}
-use Rattle.mod_statement.specs.Answers.{IsFaultOf, fault_of}
-use Rattle.mod_statement.specs.Faults.{IsOverDue}
-use Rattle.mod_statement.proofs.Walks.{stopped}
+use Rattle.mod_statement.specs.{Sums.{no_sums, sums_over}, Slack.slack_coins}
+use Rattle.mod_statement.specs.{Bounds.{bounds_of, bounds_of_span, bounds_over, or_over}, Answers.{IsFaultOf, fault_of}}
+use Rattle.mod_statement.{specs.Faults.IsOverDue, proofs.Walks.stopped}
+use Rattle.mod_statement.specs.declared.fault.StatementFault.TheVariants as fault
 
 -- ---- a span
 

@@ -1,29 +1,17 @@
 -- The bounds of entries lie about their exact ideal reward.
-use Rattle.std.proofs.Common.{◌≡◌, ℕ, ◌+◌, ◌-◌, ◌*◌, ◌^◌, ◌<◌, ◌≤◌, ◌==◌, ◌&&◌, Bool, true, false, List, [], ◌∷◌, map, refl, sym, subst, arith}
-use Rattle.std.specs.Prelude.{Ok, All, if◌then◌else◌, nat_lt, nat_le}
-use Rattle.std.proofs.lemmas.Bool.{and_parts, ltb-true}
-use Rattle.std.proofs.lemmas.Bool.Decides.{nat_tests}
-use Rattle.std.proofs.lemmas.List.Elements.{All-head, All-tail}
-use Rattle.base_decimals.specs.Fractions.{Fraction, fraction_of}
-use Rattle.base_decimals.specs.Rounding.{cut, up}
+use Rattle.std.proofs.Common.{◌≡◌, ℕ, ◌+◌, ◌-◌, ◌*◌, ◌^◌, ◌<◌, ◌≤◌, ◌==◌, ◌&&◌, Bool, true, false, List, [], ◌∷◌, map, refl, sym, subst, arith, Ok, All, if◌then◌else◌, nat_lt, nat_le, ltb-true}
+use Rattle.std.proofs.lemmas.{Bool.{and_parts, Decides.nat_tests}, List.Elements.{All-head, All-tail}}
+use Rattle.base_decimals.specs.{Fractions.{Fraction, fraction_of}, Rounding.{cut, up}}
 use Rattle.base_decimals.proofs.Nearest.{up_above, up_least}
-use Rattle.base_shares.proofs.Roundings.{cut_low, cut_most}
-use Rattle.base_shares.specs.Burns.{ratio_of}
-use Rattle.base_coins.specs.Steps.{◌>>=◌}
-use Rattle.base_coins.specs.Coins.{Money, IsMoney, amount_of}
-use Rattle.base_coins.proofs.Order.{Rises, rises_from_money}
+use Rattle.base_shares.{proofs.Roundings.{cut_low, cut_most}, specs.Burns.ratio_of}
+use Rattle.base_coins.{specs.{Steps.{◌>>=◌}, Coins.{Money, IsMoney, amount_of}}, proofs.Order.{Rises, rises_from_money}}
 use Rattle.base_coins.proofs.Amounts.{ok, same_ok, bind_ok}
 use Rattle.rule_modules.specs.Ideal.{Ideal, ◌⊕◌, ◌⊗◌, ideal_after, ideal_over, ideal_reward, ideal_start, stretch_closed}
-use Rattle.mod_statement.specs.declared.entry.Entry.{Entry}
-use Rattle.mod_statement.specs.declared.entry.Entry.TheVariants.{Started, Allocated, Ended, Slashed, Touched}
-use Rattle.mod_statement.specs.declared.bounds.Bounds.{Bounds}
-use Rattle.mod_statement.specs.declared.stakes.Stakes.{Stakes}
-use Rattle.mod_statement.specs.declared.sums.Sums.{Sums}
+use Rattle.mod_statement.specs.declared.entry.Entry.{Entry, TheVariants.{Started, Allocated, Ended, Slashed, Touched}}
+use Rattle.mod_statement.specs.declared.{bounds.Bounds.Bounds, stakes.Stakes.Stakes, sums.Sums.Sums}
 use Rattle.mod_statement.specs.Entries.{AreBehind, HasMoney, is_behind, stakes_worth}
-use Rattle.mod_statement.specs.Sums.{coins_shared, no_sums, sums_after, sums_over, sums_slashed}
-use Rattle.mod_statement.specs.Slack.{slack_coins}
-use Rattle.mod_statement.specs.Bounds.{bounds_of, bounds_over}
-use Rattle.mod_statement.specs.Bracketed.{RightIsBracketed, logged, span_stated}
+use Rattle.mod_statement.specs.{Sums.{coins_shared, no_sums, sums_after, sums_over, sums_slashed}, Slack.slack_coins}
+use Rattle.mod_statement.specs.{Bounds.{bounds_of, bounds_over}, Bracketed.{RightIsBracketed, logged, span_stated}}
 use Rattle.mod_statement.proofs.Spans.{IsSpan, span_bounds}
 use Rattle.mod_statement.proofs.Shared.{Shares, shares_of, adds_rises, adds_amount, least_of, most_of}
 use Rattle.mod_statement.proofs.Exact.{low_joined, high_joined, low_left, high_left, both_positive}

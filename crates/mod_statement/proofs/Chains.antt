@@ -1,16 +1,9 @@
 -- One step after another of a stretch's factor and of a slack.
-use Rattle.std.proofs.Common.{ℕ, ◌+◌, ◌^◌, List}
-use Rattle.std.specs.Prelude.{Result, Ok, count_by}
-use Rattle.base_decimals.specs.declared.over.Over.{Over}
-use Rattle.base_decimals.specs.Decimals.{add_of}
-use Rattle.base_decimals.specs.Rounding.{up}
-use Rattle.base_coins.specs.Steps.{◌>>=◌}
-use Rattle.base_coins.specs.Coins.{Money, amount_of}
-use Rattle.mod_statement.specs.declared.entry.Entry.{Entry}
-use Rattle.mod_statement.specs.declared.slack.Factor.{Factor}
-use Rattle.mod_statement.specs.Entries.{is_touch}
-use Rattle.mod_statement.specs.Rounding.{product_of, quotient_up_of}
-use Rattle.mod_statement.specs.Slack.{rate_of}
+use Rattle.std.proofs.Common.{ℕ, ◌+◌, ◌^◌, List, Result, Ok, count_by}
+use Rattle.base_decimals.specs.{declared.over.Over.Over, Decimals.add_of, Rounding.up}
+use Rattle.base_coins.specs.{Steps.{◌>>=◌}, Coins.{Money, amount_of}}
+use Rattle.mod_statement.specs.{declared.{entry.Entry.Entry, slack.Factor.Factor}, Entries.is_touch}
+use Rattle.mod_statement.specs.{Rounding.{product_of, quotient_up_of}, Slack.rate_of}
 
 abbrev pub one : ℕ
 one = 10 ^ 18

@@ -1,28 +1,17 @@
 -- The slack of a statement covers the exact one.
-use Rattle.std.proofs.Common.{◌≡◌, ℕ, ◌+◌, ◌*◌, ◌^◌, ◌<◌, ◌≤◌, ◌==◌, Bool, true, false, cond, not, suc, List, [], ◌∷◌, map, take, refl, sym, ap, ◌∙◌, subst, arith, mul-le-mul_right, le_of_mul-le-mul_right}
-use Rattle.std.specs.Prelude.{Ok, count_by, if◌then◌else◌}
-use Rattle.std.proofs.lemmas.Bool.{false≢true}
-use Rattle.std.proofs.lemmas.Bool.Decides.{nat_tests}
-use Rattle.std.specs.List.{prefix_len}
-use Rattle.std.proofs.lemmas.List.Sums.{sum_by-cons}
-use Rattle.base_decimals.specs.Decimals.{add_of}
-use Rattle.base_decimals.specs.Fractions.{Fraction, fraction_of}
-use Rattle.base_decimals.specs.Rounding.{cut, up}
+use Rattle.std.proofs.Common.{◌≡◌, ℕ, ◌+◌, ◌*◌, ◌^◌, ◌<◌, ◌≤◌, ◌==◌, Bool, true, false, cond, not, suc, List, [], ◌∷◌, map, take, refl, sym, ap, ◌∙◌, subst, arith, mul-le-mul_right, le_of_mul-le-mul_right, Ok, count_by, if◌then◌else◌}
+use Rattle.std.{proofs.lemmas.{Bool.{false≢true, Decides.nat_tests}, List.Sums.sum_by-cons}, specs.List.prefix_len}
+use Rattle.base_decimals.specs.{Decimals.add_of, Fractions.{Fraction, fraction_of}, Rounding.{cut, up}}
 use Rattle.base_decimals.proofs.Nearest.{up_above}
 use Rattle.base_shares.specs.Burns.{ratio_of}
-use Rattle.base_coins.specs.Coins.{Money, amount_of}
-use Rattle.base_coins.proofs.Amounts.{ok, same_ok, bind_ok, add_sum}
+use Rattle.base_coins.{specs.Coins.{Money, amount_of}, proofs.Amounts.{ok, same_ok, bind_ok, add_sum}}
 use Rattle.rule_modules.specs.Ideal.{Ideal, ◌⊕◌, ◌⊗◌, whole, ideal_after, ideal_over, ideal_start, stretch_slack, stretch_closed}
-use Rattle.mod_statement.specs.declared.entry.Entry.{Entry}
-use Rattle.mod_statement.specs.declared.entry.Entry.TheVariants.{Started, Allocated, Ended, Slashed, Touched}
-use Rattle.mod_statement.specs.declared.slack.Factor.{Factor}
-use Rattle.mod_statement.specs.Entries.{is_end, is_slash, is_touch, stakes_worth}
+use Rattle.mod_statement.specs.declared.entry.Entry.{Entry, TheVariants.{Started, Allocated, Ended, Slashed, Touched}}
+use Rattle.mod_statement.specs.{declared.slack.Factor.Factor, Entries.{is_end, is_slash, is_touch, stakes_worth}}
 use Rattle.mod_statement.specs.Rounding.{product_of, quotient_up_of}
 use Rattle.mod_statement.specs.Slack.{first_stretch, given, later_stretches, rate_of, slack_in, stretches_of, with_stretch}
-use Rattle.mod_statement.specs.Bracketed.{logged, logged_span}
-use Rattle.mod_statement.specs.Covers.{AreAtLeast, slack_due}
-use Rattle.mod_statement.proofs.Exact.{both_positive}
-use Rattle.mod_statement.proofs.Shared.{below_is}
+use Rattle.mod_statement.specs.{Bracketed.{logged, logged_span}, Covers.{AreAtLeast, slack_due}}
+use Rattle.mod_statement.proofs.{Exact.both_positive, Shared.below_is}
 use Rattle.mod_statement.proofs.Chains.{one, after_part, after_spread, after_rate, after_weight, after_more, after_alone, after_ended, after_overclaim, after_within, after_clamped, after_factor}
 
 -- ---- a number of units of 10^-18 that is at least a fraction

@@ -1,33 +1,19 @@
 -- The slack of a statement in each denomination that it lists, and what it covers there.
-use Rattle.std.proofs.Common.{◌≡◌, ℕ, ◌+◌, ◌^◌, ◌<◌, ◌≤◌, zero, suc, Bool, true, false, List, [], ◌∷◌, refl, sym, ap, ◌∙◌, subst, arith}
-use Rattle.std.specs.Prelude.{All, Contains, Ok, count_by}
-use Rattle.std.specs.BTreeMap.{is_at}
-use Rattle.std.specs.Ordering.{is_eq}
-use Rattle.std.proofs.lemmas.Bool.{false≢true}
-use Rattle.std.proofs.lemmas.List.Elements.{All-nil, All-cons}
-use Rattle.base_decimals.specs.Decimals.{add_of}
-use Rattle.base_decimals.specs.Rounding.{up}
-use Rattle.base_decimals.proofs.Nearest.{up_least}
+use Rattle.std.proofs.Common.{◌≡◌, ℕ, ◌+◌, ◌^◌, ◌<◌, ◌≤◌, zero, suc, Bool, true, false, List, [], ◌∷◌, refl, sym, ap, ◌∙◌, subst, arith, All, Contains, Ok, count_by, is_eq}
+use Rattle.std.{specs.BTreeMap.is_at, proofs.lemmas.{Bool.false≢true, List.Elements.{All-nil, All-cons}}}
+use Rattle.base_decimals.{specs.{Decimals.add_of, Rounding.up}, proofs.Nearest.up_least}
 use Rattle.base_types.specs.Orders.{denom_cmp}
-use Rattle.base_coins.specs.Steps.{◌>>=◌}
-use Rattle.base_coins.specs.Coins.{Money, amount_of, sorted_coins}
+use Rattle.base_coins.specs.{Steps.{◌>>=◌}, Coins.{Money, amount_of, sorted_coins}}
 use Rattle.base_coins.proofs.Order.{same_name, amount-first}
 use Rattle.base_coins.proofs.Amounts.{ok, same_ok, bind_ok, itself, is_equal, amount-first_other}
 use Rattle.base_coins.proofs.Sorting.{amount-sorted}
-use Rattle.mod_statement.specs.declared.entry.Entry.{Entry}
-use Rattle.mod_statement.specs.declared.entry.Entry.TheVariants.{Started}
-use Rattle.mod_statement.specs.declared.bounds.Bounds.{Bounds}
-use Rattle.mod_statement.specs.declared.stakes.Stakes.{Stakes}
-use Rattle.mod_statement.specs.Entries.{is_touch, stakes_worth}
-use Rattle.mod_statement.specs.Rounding.{product_of}
+use Rattle.mod_statement.specs.declared.{entry.Entry.{Entry, TheVariants.Started}, bounds.Bounds.Bounds}
+use Rattle.mod_statement.specs.{declared.stakes.Stakes.Stakes, Entries.{is_touch, stakes_worth}, Rounding.product_of}
 use Rattle.mod_statement.specs.Sums.{no_sums, sums_over}
 use Rattle.mod_statement.specs.Slack.{denoms_of, slack_coins, slack_in, slacks_of, stretches_of}
-use Rattle.mod_statement.specs.Bracketed.{span_stated}
-use Rattle.mod_statement.specs.Covers.{AreAtLeast, SlackCovers, slack_due}
+use Rattle.mod_statement.specs.{Bracketed.span_stated, Covers.{AreAtLeast, SlackCovers, slack_due}}
 use Rattle.mod_statement.proofs.Chains.{one, after_overclaim, after_within, after_clamped, after_factor}
-use Rattle.mod_statement.proofs.Shared.{below_is}
-use Rattle.mod_statement.proofs.Spans.{IsSpan, span_bounds}
-use Rattle.mod_statement.proofs.Covering.{covered_in}
+use Rattle.mod_statement.proofs.{Shared.below_is, Spans.{IsSpan, span_bounds}, Covering.covered_in}
 
 -- ---- a slack is below the limit
 

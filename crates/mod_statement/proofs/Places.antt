@@ -1,11 +1,6 @@
 -- Where a denomination is put among others in order.
-use Rattle.std.proofs.Common.{◌≡◌, ℕ, zero, suc, ◌<◌, ◌≤◌, List, [], ◌∷◌, length, get_or, refl, sym, ap, ◌∙◌, arith}
-use Rattle.std.specs.List.{insert}
-use Rattle.std.specs.BTreeSet.{insert_key}
-use Rattle.std.specs.Ordering.{match_ordering}
-use Rattle.std.specs.declared.cmp.Ordering.{Ordering}
-use Rattle.std.specs.declared.cmp.Ordering.TheVariants.{Less, Equal, Greater}
-use Rattle.std.proofs.lemmas.List.{get_or_read}
+use Rattle.std.proofs.Common.{◌≡◌, ℕ, zero, suc, ◌<◌, ◌≤◌, List, [], ◌∷◌, length, get_or, refl, sym, ap, ◌∙◌, arith, insert, Ordering, Less, Equal, Greater}
+use Rattle.std.{specs.{BTreeSet.insert_key, Ordering.match_ordering}, proofs.lemmas.List.get_or_read}
 use Rattle.base_types.specs.Orders.{denom_cmp}
 
 -- each of the first places has a denomination below

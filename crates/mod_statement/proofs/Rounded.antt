@@ -1,10 +1,6 @@
 -- A part of an amount is at most the amount, so it is a decimal.
-use Rattle.std.proofs.Common.{◌≡◌, ℕ, ◌*◌, ◌^◌, ◌<◌, ◌≤◌, ap, arith, mul-le-mul_right}
-use Rattle.std.specs.Prelude.{Ok, Err, if◌then◌else◌}
-use Rattle.std.proofs.lemmas.Bool.{lt-ltb}
-use Rattle.base_decimals.specs.Decimals.{quotient_over}
-use Rattle.base_decimals.specs.Rounding.{cut, up}
-use Rattle.base_decimals.proofs.Nearest.{up_least}
+use Rattle.std.proofs.Common.{◌≡◌, ℕ, ◌*◌, ◌^◌, ◌<◌, ◌≤◌, ap, arith, mul-le-mul_right, Ok, Err, if◌then◌else◌, lt-ltb}
+use Rattle.base_decimals.{specs.{Decimals.quotient_over, Rounding.{cut, up}}, proofs.Nearest.up_least}
 use Rattle.base_shares.proofs.Roundings.{cut_most}
 use Rattle.mod_statement.specs.Rounding.{quotient_cut_of, quotient_up_of}
 

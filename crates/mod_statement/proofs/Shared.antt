@@ -1,19 +1,12 @@
 -- What an allocation adds to the sums, amount by amount.
-use Rattle.std.proofs.Common.{◌≡◌, ℕ, ◌+◌, ◌*◌, ◌^◌, ◌<◌, ◌==◌, Bool, true, false, List, [], ◌∷◌, refl, sym, ap, ◌∙◌, subst, arith}
-use Rattle.std.specs.Prelude.{Ok, if◌then◌else◌, nat_lt}
-use Rattle.std.specs.BTreeMap.{is_at}
-use Rattle.std.proofs.lemmas.Bool.{ltb-true}
-use Rattle.std.proofs.lemmas.Bool.Decides.{nat_tests}
-use Rattle.base_decimals.specs.declared.over.Over.{Over}
-use Rattle.base_decimals.specs.Decimals.{below}
-use Rattle.base_decimals.specs.Rounding.{cut, up}
+use Rattle.std.proofs.Common.{◌≡◌, ℕ, ◌+◌, ◌*◌, ◌^◌, ◌<◌, ◌==◌, Bool, true, false, List, [], ◌∷◌, refl, sym, ap, ◌∙◌, subst, arith, Ok, if◌then◌else◌, nat_lt, ltb-true}
+use Rattle.std.{specs.BTreeMap.is_at, proofs.lemmas.Bool.Decides.nat_tests}
+use Rattle.base_decimals.specs.{declared.over.Over.Over, Decimals.below, Rounding.{cut, up}}
 use Rattle.base_types.specs.Orders.{denom_cmp}
-use Rattle.base_coins.specs.Steps.{◌>>=◌}
-use Rattle.base_coins.specs.Coins.{Money, amount_of, coin_then}
+use Rattle.base_coins.specs.{Steps.{◌>>=◌}, Coins.{Money, amount_of, coin_then}}
 use Rattle.base_coins.proofs.Order.{Rises, same_name, amount-above, amount-first}
 use Rattle.base_coins.proofs.Amounts.{ok, over, same_ok, err_not_ok, bind_ok, itself, is_equal, amount-first_other, rises_added, amount-added}
-use Rattle.mod_statement.specs.declared.sums.Sums.{Sums}
-use Rattle.mod_statement.specs.Rounding.{quotient_cut_of, quotient_up_of}
+use Rattle.mod_statement.specs.{declared.sums.Sums.Sums, Rounding.{quotient_cut_of, quotient_up_of}}
 use Rattle.mod_statement.specs.Sums.{more_of, coin_shared, coins_shared}
 
 -- ---- what is below the limit is itself

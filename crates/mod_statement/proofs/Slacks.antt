@@ -1,25 +1,13 @@
 -- The slacks of denominations in order, each once.
-use Rattle.std.proofs.Common.{◌≡◌, ℕ, ◌+◌, ◌<◌, ◌≤◌, List, [], ◌∷◌, ◌++◌, length, drop, get_or, true, false, refl, sym, ap, ◌∙◌, subst, append_assoc, append-nil, add-one, drop-cons}
-use Rattle.std.specs.Prelude.{Result, Ok, Err}
-use Rattle.std.specs.List.{AllByRecursion}
-use Rattle.std.specs.List.Sorted.{IsStrictlySortedBy}
-use Rattle.std.specs.Map.{keys_of}
-use Rattle.std.specs.BTreeSet.{insert_key}
-use Rattle.std.specs.Ordering.{match_ordering}
-use Rattle.std.specs.declared.cmp.Ordering.{Ordering}
-use Rattle.std.specs.declared.cmp.Ordering.TheVariants.{Less, Equal, Greater}
-use Rattle.std.proofs.lemmas.Bool.{false≢true}
-use Rattle.std.proofs.lemmas.List.{drop_all}
+use Rattle.std.proofs.Common.{◌≡◌, ℕ, ◌+◌, ◌<◌, ◌≤◌, List, [], ◌∷◌, ◌++◌, length, drop, get_or, true, false, refl, sym, ap, ◌∙◌, subst, append_assoc, append-nil, add-one, drop-cons, Result, Ok, Err, Ordering, Less, Equal, Greater}
+use Rattle.std.specs.{List.{AllByRecursion, Sorted.IsStrictlySortedBy}, Map.keys_of, BTreeSet.insert_key}
+use Rattle.std.{specs.Ordering.match_ordering, proofs.lemmas.{Bool.false≢true, List.drop_all}}
 use Rattle.std.proofs.lemmas.Map.Keys.{IsDistinct-from_sorted}
 use Rattle.base_decimals.specs.declared.over.Over.{Over}
 use Rattle.base_types.specs.Orders.{denom_cmp}
-use Rattle.base_coins.specs.Steps.{◌>>=◌}
-use Rattle.base_coins.specs.Coins.{Money, sorted_coins, stands_twice}
-use Rattle.base_coins.proofs.Order.{by_order, total, greater_back}
-use Rattle.base_coins.proofs.Amounts.{ok, same_ok, bind_ok}
-use Rattle.base_coins.proofs.Sorting.{not_twice}
-use Rattle.mod_statement.specs.declared.entry.Entry.{Entry}
-use Rattle.mod_statement.specs.declared.entry.Entry.TheVariants.{Started, Allocated, Ended, Slashed, Touched}
+use Rattle.base_coins.specs.{Steps.{◌>>=◌}, Coins.{Money, sorted_coins, stands_twice}}
+use Rattle.base_coins.proofs.{Order.{by_order, total, greater_back}, Amounts.{ok, same_ok, bind_ok}, Sorting.not_twice}
+use Rattle.mod_statement.specs.declared.entry.Entry.{Entry, TheVariants.{Started, Allocated, Ended, Slashed, Touched}}
 use Rattle.mod_statement.specs.Slack.{denoms_with, denoms_over, denoms_of, slack_coins, slack_in, slacks_of}
 
 -- ---- denominations that ascend

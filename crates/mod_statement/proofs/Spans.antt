@@ -1,17 +1,11 @@
 -- Entries that have bounds are a start and what may stand behind it, and these are the bounds of what stands there.
-use Rattle.std.proofs.Common.{◌≡◌, ℕ, ◌-◌, ◌^◌, ◌<◌, ◌&&◌, Bool, true, false, List, [], ◌∷◌, length, refl, ap, arith}
-use Rattle.std.specs.Prelude.{Some, None, Result, Ok, Err, if◌then◌else◌, nat_lt, nat_le, slice_get}
-use Rattle.std.proofs.lemmas.Bool.{and_parts, ltb-true, leb-true}
-use Rattle.std.proofs.lemmas.List.Elements.{All-nil, All-cons}
-use Rattle.std.specs.List.{list_all}
+use Rattle.std.proofs.Common.{◌≡◌, ℕ, ◌-◌, ◌^◌, ◌<◌, ◌&&◌, Bool, true, false, List, [], ◌∷◌, length, refl, ap, arith, Some, None, Result, Ok, Err, if◌then◌else◌, nat_lt, nat_le, slice_get, ltb-true, leb-true}
+use Rattle.std.{proofs.lemmas.{Bool.and_parts, List.Elements.{All-nil, All-cons}}, specs.List.list_all}
 use Rattle.std.specs.Result.{result_unwrap_or}
 use Rattle.base_decimals.specs.declared.over.Over.{Over}
-use Rattle.base_coins.specs.Coins.{Money}
-use Rattle.base_coins.proofs.Amounts.{ok}
-use Rattle.mod_statement.specs.declared.entry.Entry.{Entry}
-use Rattle.mod_statement.specs.declared.entry.Entry.TheVariants.{Started, Allocated, Ended, Slashed, Touched}
-use Rattle.mod_statement.specs.declared.bounds.Bounds.{Bounds}
-use Rattle.mod_statement.specs.declared.fault.StatementFault.{StatementFault}
+use Rattle.base_coins.{specs.Coins.Money, proofs.Amounts.ok}
+use Rattle.mod_statement.specs.declared.entry.Entry.{Entry, TheVariants.{Started, Allocated, Ended, Slashed, Touched}}
+use Rattle.mod_statement.specs.declared.{bounds.Bounds.Bounds, fault.StatementFault.StatementFault}
 use Rattle.mod_statement.specs.Entries.{AreBehind, is_behind, is_ended_by, is_rest, span_from, stakes_worth}
 use Rattle.mod_statement.specs.Bounds.{bounds_of, bounds_of_span, bounds_over, or_over}
 

@@ -1,13 +1,8 @@
 -- The first stretch is what stands before the first slash.
-use Rattle.std.proofs.Common.{◌≡◌, ℕ, ◌<◌, ◌≤◌, Bool, true, false, not, List, length, get_or, take, sym, ap, ◌∙◌, arith}
-use Rattle.std.specs.List.{prefix_len}
-use Rattle.std.proofs.lemmas.List.{get_or_read, take_all}
-use Rattle.std.proofs.lemmas.List.Elements.{All-take}
-use Rattle.std.proofs.lemmas.List.Sums.{prefix_len_is}
-use Rattle.mod_statement.specs.declared.entry.Entry.{Entry}
-use Rattle.mod_statement.specs.declared.entry.Entry.TheVariants.{Ended}
-use Rattle.mod_statement.specs.Entries.{AreBehind, is_behind, is_slash}
-use Rattle.mod_statement.specs.Slack.{first_stretch}
+use Rattle.std.proofs.Common.{◌≡◌, ℕ, ◌<◌, ◌≤◌, Bool, true, false, not, List, length, get_or, take, sym, ap, ◌∙◌, arith, take_all}
+use Rattle.std.{specs.List.prefix_len, proofs.lemmas.List.{get_or_read, Elements.All-take, Sums.prefix_len_is}}
+use Rattle.mod_statement.specs.declared.entry.Entry.{Entry, TheVariants.Ended}
+use Rattle.mod_statement.specs.{Entries.{AreBehind, is_behind, is_slash}, Slack.first_stretch}
 
 -- no slash stands before a place
 abbrev pub NoneBefore : List Entry → ℕ → Type 0

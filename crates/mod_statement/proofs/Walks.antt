@@ -1,19 +1,11 @@
 -- Loops over entries and coins: each step goes on from what the one before it came to.
-use Rattle.std.proofs.Common.{◌≡◌, ℕ, ◌+◌, ◌<◌, ◌≤◌, List, [], ◌∷◌, map, length, drop, get_or, true, false, refl, sym, ap, ◌∙◌}
-use Rattle.std.specs.Prelude.{Result, Ok, Err, if◌then◌else◌}
+use Rattle.std.proofs.Common.{◌≡◌, ℕ, ◌+◌, ◌<◌, ◌≤◌, List, [], ◌∷◌, map, length, drop, get_or, true, false, refl, sym, ap, ◌∙◌, Result, Ok, Err, if◌then◌else◌}
 use Rattle.std.proofs.lemmas.List.{drop_all}
-use Rattle.base_decimals.specs.declared.over.Over.{Over}
-use Rattle.base_decimals.specs.Decimals.{add_of}
-use Rattle.base_coins.specs.declared.coin.DecCoin.{DecCoin}
-use Rattle.base_coins.specs.declared.fault.CoinFault.{CoinFault}
+use Rattle.base_decimals.specs.{declared.over.Over.Over, Decimals.add_of}
+use Rattle.base_coins.specs.{declared.{coin.DecCoin.DecCoin, fault.CoinFault.CoinFault}, Steps.{◌>>=◌}}
 use Rattle.base_coins.specs.declared.fault.CoinFault.TheVariants as fault
-use Rattle.base_coins.specs.Steps.{◌>>=◌}
-use Rattle.mod_statement.specs.declared.entry.Entry.{Entry}
-use Rattle.mod_statement.specs.declared.entry.Entry.TheVariants.{Started, Allocated, Ended, Slashed, Touched}
-use Rattle.mod_statement.specs.declared.sums.Sums.{Sums}
-use Rattle.mod_statement.specs.declared.slack.Factor.{Factor}
-use Rattle.mod_statement.specs.Entries.{is_slash}
-use Rattle.mod_statement.specs.Faults.{IsOverDue}
+use Rattle.mod_statement.specs.declared.entry.Entry.{Entry, TheVariants.{Started, Allocated, Ended, Slashed, Touched}}
+use Rattle.mod_statement.specs.{declared.{sums.Sums.Sums, slack.Factor.Factor}, Entries.is_slash, Faults.IsOverDue}
 use Rattle.mod_statement.specs.Sums.{coin_shared, coins_shared, sums_after, sums_over}
 use Rattle.mod_statement.specs.Slack.{denoms_over, denoms_with, factor_after, first_stretch, given, later_stretches, number_after, rate_of, stretches_of, with_stretch}
 use Rattle.mod_statement.proofs.Slacks.{rest_from}

@@ -1,14 +1,10 @@
 -- Ballots one after another: of each voter the last stands.
 use Rattle.std.proofs.Common.{◌≡◌, ◌∙◌, ℕ, Bool, true, false, cond, List, [], ◌∷◌, Option, Some, None, refl, sym, ap}
-use Rattle.std.specs.Option.{option_or}
-use Rattle.std.specs.BTreeMap.{is_at}
-use Rattle.base_types.specs.Orders.{addr_cmp}
-use Rattle.base_types.proofs.MapLemmas.{at-put}
-use Rattle.base_roles.specs.Entries.{at, with}
-use Rattle.base_roles.specs.Orders.{same_addr}
+use Rattle.std.specs.{Option.option_or, BTreeMap.is_at}
+use Rattle.base_types.{specs.Orders.addr_cmp, proofs.MapLemmas.at-put}
+use Rattle.base_roles.specs.{Entries.{at, with}, Orders.same_addr}
 use Rattle.rule_modules.proofs.OrderLemmas.{addr_total, same_back}
-use Rattle.mod_tally.specs.declared.choice.Choice.{Choice}
-use Rattle.mod_tally.specs.Ballots.{Cast, chosen_in}
+use Rattle.mod_tally.specs.{declared.choice.Choice.Choice, Ballots.{Cast, chosen_in}}
 
 -- nothing stands in place of a choice
 pub or_none : (o : Option Choice) → option_or o None ≡ o

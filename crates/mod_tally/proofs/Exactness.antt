@@ -1,26 +1,18 @@
 -- The totals lie less than a unit for each value from the exact ones.
 use Rattle.std.proofs.Math.Nat.{mul-le-mul_right, le_of_mul-le-mul_right, lt_of_mul-lt-mul_right}
-use Rattle.std.proofs.lemmas.Bool.{cases_lt, false≢true}
-use Rattle.std.proofs.Common.{◌≡◌, ◌∙◌, ℕ, ◌+◌, ◌-◌, ◌*◌, ◌^◌, ◌<◌, ◌≤◌, Bool, true, false, cond, List, [], ◌∷◌, length, inl, inr, refl, sym, ap, subst, arith}
-use Rattle.std.specs.Prelude.{◌&&◌, nat_lt}
-use Rattle.std.specs.List.{AllByRecursion, filter, sum_by}
-use Rattle.std.specs.Map.{values_of}
-use Rattle.std.proofs.lemmas.List.Elements.{recursion_from_All}
+use Rattle.std.proofs.lemmas.{Bool.{cases_lt, false≢true}, List.Elements.recursion_from_All}
+use Rattle.std.specs.{List.AllByRecursion, Map.values_of}
+use Rattle.std.proofs.Common.{◌≡◌, ◌∙◌, ℕ, ◌+◌, ◌-◌, ◌*◌, ◌^◌, ◌<◌, ◌≤◌, Bool, true, false, cond, List, [], ◌∷◌, length, inl, inr, refl, sym, ap, subst, arith, ◌&&◌, nat_lt, filter, sum_by}
 use Rattle.base_decimals.specs.Fractions.{Fraction, fraction_of}
 use Rattle.base_shares.specs.Burns.{plus, ratio_of}
-use Rattle.base_roles.specs.declared.entities.Validator.{Validator}
-use Rattle.base_roles.specs.Entries.{sum_where}
-use Rattle.base_roles.specs.Orders.{same_addr}
+use Rattle.base_roles.specs.{declared.entities.Validator.Validator, Entries.sum_where, Orders.same_addr}
 use Rattle.base_roles.specs.Staked.{Staked, is_bonded, tokens_where}
-use Rattle.mod_tally.specs.declared.choice.Choice.{Choice}
-use Rattle.mod_tally.specs.Ballots.{Chosen, is_for}
+use Rattle.mod_tally.specs.{declared.choice.Choice.Choice, Ballots.{Chosen, is_for}}
 use Rattle.mod_tally.specs.Exact.{DifferBelow, exact_at, exact_of, exact_value, given_to, sum_exact, values_for, values_of_total}
-use Rattle.mod_tally.specs.Laws.{TotalsAreNearExact}
-use Rattle.mod_tally.specs.Taken.{CanBeTallied}
+use Rattle.mod_tally.specs.{Laws.TotalsAreNearExact, Taken.CanBeTallied}
 use Rattle.mod_tally.specs.Tally.{Delegations, counted_of, counts, delegations_to, from_delegators, from_operator, shares_in, shares_left, stake_for, those_cast, those_for, total_of}
 use Rattle.mod_tally.proofs.Nearness.{IsNear, near_both, near_if, near_most, near_values}
-use Rattle.mod_tally.proofs.Parts.{cast_within, counts_some, delegated_is, for_within, given_is}
-use Rattle.mod_tally.proofs.Sums.{sum_next}
+use Rattle.mod_tally.proofs.{Parts.{cast_within, counts_some, delegated_is, for_within, given_is}, Sums.sum_next}
 
 -- ---- near a fraction
 

@@ -1,16 +1,11 @@
 -- How far a total lies from the exact one: less than a unit for each value that was rounded.
 use Rattle.std.proofs.Math.Nat.{mul-le-mul_right, mul-le-mul_left, le_of_mul-le-mul_right, lt_of_mul-lt-mul_right}
-use Rattle.std.proofs.lemmas.Nat.{mod_below}
-use Rattle.std.proofs.lemmas.Bool.{cases_lt, cases_order}
-use Rattle.std.proofs.Common.{◌≡◌, ℕ, ◌+◌, ◌-◌, ◌*◌, ◌/◌, ◌%◌, ◌^◌, ◌<◌, ◌≤◌, Bool, true, false, cond, List, [], ◌∷◌, length, inl, inr, sym, subst, arith}
-use Rattle.std.specs.List.{sum_by}
-use Rattle.base_decimals.specs.Rounding.{even}
-use Rattle.base_decimals.specs.Decimals.{digits_36}
+use Rattle.std.proofs.lemmas.{Nat.mod_below, Bool.{cases_lt, cases_order}}
+use Rattle.std.proofs.Common.{◌≡◌, ℕ, ◌+◌, ◌-◌, ◌*◌, ◌/◌, ◌%◌, ◌^◌, ◌<◌, ◌≤◌, Bool, true, false, cond, List, [], ◌∷◌, length, inl, inr, sym, subst, arith, sum_by}
+use Rattle.base_decimals.specs.{Rounding.even, Decimals.digits_36}
 use Rattle.base_decimals.proofs.Nearest.{parts, even_below, even_above, even_tie}
-use Rattle.base_shares.specs.Shares.{value_even_of}
-use Rattle.base_shares.proofs.Roundings.{cut_low, cut_high}
-use Rattle.mod_tally.specs.Tally.{Delegations, shares_in}
-use Rattle.mod_tally.proofs.Sums.{sum_next}
+use Rattle.base_shares.{specs.Shares.value_even_of, proofs.Roundings.{cut_low, cut_high}}
+use Rattle.mod_tally.{specs.Tally.{Delegations, shares_in}, proofs.Sums.sum_next}
 
 -- ---- one value
 

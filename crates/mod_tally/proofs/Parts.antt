@@ -1,17 +1,10 @@
 -- A validator's shares: those that delegators give, those that its operator gives, and how they come to what is given.
-use Rattle.std.proofs.Common.{◌≡◌, ◌∙◌, ℕ, ◌+◌, ◌-◌, ◌<◌, ◌≤◌, Bool, true, false, cond, List, [], ◌∷◌, Option, Some, None, refl, sym, ap, subst, arith, zero-add}
-use Rattle.std.specs.Prelude.{◌&&◌, is_some, nat_lt}
-use Rattle.std.specs.List.{filter, sum_by}
-use Rattle.std.specs.Option.{option_or}
-use Rattle.std.proofs.lemmas.Bool.Decides.{nat_tests}
-use Rattle.base_roles.specs.declared.entities.Validator.{Validator}
-use Rattle.base_roles.specs.Entries.{sum_where}
-use Rattle.base_roles.specs.Orders.{same_addr}
+use Rattle.std.proofs.Common.{◌≡◌, ◌∙◌, ℕ, ◌+◌, ◌-◌, ◌<◌, ◌≤◌, Bool, true, false, cond, List, [], ◌∷◌, Option, Some, None, refl, sym, ap, subst, arith, zero-add, ◌&&◌, is_some, nat_lt, filter, sum_by}
+use Rattle.std.{specs.Option.option_or, proofs.lemmas.Bool.Decides.nat_tests}
+use Rattle.base_roles.specs.{declared.entities.Validator.Validator, Entries.sum_where, Orders.same_addr}
 use Rattle.base_roles.specs.Staked.{is_bonded}
 use Rattle.rule_modules.proofs.OrderLemmas.{same_is}
-use Rattle.mod_tally.specs.declared.choice.Choice.{Choice}
-use Rattle.mod_tally.specs.Ballots.{Chosen, is_for, same_choice}
-use Rattle.mod_tally.specs.Exact.{given_to}
+use Rattle.mod_tally.specs.{declared.choice.Choice.Choice, Ballots.{Chosen, is_for, same_choice}, Exact.given_to}
 use Rattle.mod_tally.specs.Tally.{Delegations, counts, delegations_to, shares_in, those_cast, those_for}
 use Rattle.mod_tally.proofs.Sums.{kept_within, sum_alike, sum_both, sum_kept, sum_next, sum_within}
 

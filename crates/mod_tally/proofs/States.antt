@@ -1,29 +1,19 @@
 -- The items of a sound state tell its validators and delegations, of which a tally can be taken.
-use Rattle.std.proofs.Common.{◌≡◌, ◌∙◌, ℕ, ◌^◌, ◌≤◌, true, cond, List, [], ◌∷◌, ◌++◌, append-nil, map, map-id, Option, Some, None, refl, sym, ap, subst, arith}
-use Rattle.std.specs.Prelude.{All, option_map, reverse, unwrap_or}
-use Rattle.std.specs.List.{AllByRecursion, cons_option, filter_map, flat_map}
-use Rattle.std.specs.Map.{keys_of}
-use Rattle.std.proofs.lemmas.List.Elements.{All-head, All-tail, filter_map-append}
-use Rattle.std.proofs.lemmas.Map.Keys.{IsDistinct-from_sorted}
+use Rattle.std.proofs.Common.{◌≡◌, ◌∙◌, ℕ, ◌^◌, ◌≤◌, true, cond, List, [], ◌∷◌, ◌++◌, append-nil, map, map-id, Option, Some, None, refl, sym, ap, subst, arith, All, option_map, reverse, unwrap_or, filter_map, flat_map}
+use Rattle.std.specs.{List.{AllByRecursion, cons_option}, Map.keys_of}
+use Rattle.std.proofs.lemmas.{List.Elements.{All-head, All-tail, filter_map-append}, Map.Keys.IsDistinct-from_sorted}
 use Rattle.base_types.specs.declared.account.Account.TheVariants as account
 use Rattle.base_types.specs.declared.account.Module.TheVariants as holder
 use Rattle.base_types.specs.Orders.{addr_cmp}
 use Rattle.base_coins.specs.Coins.{amount_of}
-use Rattle.base_roles.specs.declared.entities.Historical.{Historical}
-use Rattle.base_roles.specs.declared.entities.Validator.{Validator}
-use Rattle.base_roles.specs.declared.items.Item.{Item}
+use Rattle.base_roles.specs.declared.{entities.{Historical.Historical, Validator.Validator}, items.Item.Item}
+use Rattle.base_roles.{specs.{Holdings.balance_of, Staked.{Staked, bonded_tokens}}, proofs.HoldingLemmas.balance-most}
 use Rattle.base_roles.specs.declared.items.Item.TheVariants as item
-use Rattle.base_roles.specs.Holdings.{balance_of}
-use Rattle.base_roles.specs.Staked.{Staked, bonded_tokens}
-use Rattle.base_roles.proofs.HoldingLemmas.{balance-most}
-use Rattle.rule_modules.specs.Chain.{State}
-use Rattle.rule_modules.specs.Periods.{Periods, Rewards, history_kept, starts_of}
-use Rattle.rule_modules.specs.Sound.{IsSound}
+use Rattle.rule_modules.specs.{Chain.State, Periods.{Periods, Rewards, history_kept, starts_of}, Sound.IsSound}
 use Rattle.rule_modules.proofs.OrderLemmas.{same_itself}
 use Rattle.rule_machine.specs.Items.{entry_items, ground_items, historical_items, items_of, reward_items, ring_of, shared_items, signing_items, staked_items}
 use Rattle.rule_machine.proofs.PurseLemmas.{coins-amount, one-amount}
-use Rattle.mod_tally.specs.Laws.{SoundStatesAreTallied}
-use Rattle.mod_tally.specs.Taken.{CanBeTallied, delegation_in, staked_in, validator_in}
+use Rattle.mod_tally.specs.{Laws.SoundStatesAreTallied, Taken.{CanBeTallied, delegation_in, staked_in, validator_in}}
 
 -- ---- items that tell no validator and no delegation
 

@@ -2,10 +2,7 @@
 use Rattle.std.proofs.Common.{◌≡◌, ◌∙◌, List, ◌∷◌, ℕ, Option, sym, ap, subst}
 use Rattle.base_types.specs.Orders.{addr_cmp}
 use Rattle.base_roles.specs.Entries.{at}
-use Rattle.mod_tally.specs.declared.choice.Choice.{Choice}
-use Rattle.mod_tally.specs.declared.outcome.Tally.{Tally}
-use Rattle.mod_tally.specs.declared.polls.Poll.{Poll}
-use Rattle.mod_tally.specs.Ballots.{Chosen}
+use Rattle.mod_tally.specs.{declared.{choice.Choice.Choice, outcome.Tally.Tally, polls.Poll.Poll}, Ballots.Chosen}
 use Rattle.mod_tally.specs.Counting.{CanClose, CanCount, CanCountLeft, CanWalk, Polls, Running, closed, counted, delegation_counted, left_counted, walked}
 use Rattle.mod_tally.specs.Tally.{Delegations}
 

@@ -1,6 +1,5 @@
 -- Sums over lists: of those that pass a test, of two numbers, and over entries that are put in order.
-use Rattle.std.proofs.Common.{◌≡◌, ◌∙◌, ℕ, ◌+◌, ◌*◌, ◌≤◌, Bool, true, false, cond, List, [], ◌∷◌, map, length, refl, sym, ap, arith, zero-add, add-zero}
-use Rattle.std.specs.List.{filter, fold, sum_by}
+use Rattle.std.proofs.Common.{◌≡◌, ◌∙◌, ℕ, ◌+◌, ◌*◌, ◌≤◌, Bool, true, false, cond, List, [], ◌∷◌, map, length, refl, sym, ap, arith, zero-add, add-zero, filter, fold, sum_by}
 use Rattle.std.proofs.lemmas.List.Sums.{sum_by-cons}
 
 pub pass_by : (b : Bool) (n : ℕ) → cond b n 0 ≤ n

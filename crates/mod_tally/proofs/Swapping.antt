@@ -1,22 +1,12 @@
 -- What delegations add to a choice, one after another, is what they add validator by validator.
-use Rattle.std.proofs.Common.{◌≡◌, ◌∙◌, ℕ, ◌+◌, Bool, true, false, cond, List, [], ◌∷◌, Option, Some, None, refl, sym, ap, zero-add, add-zero}
-use Rattle.std.specs.List.{AllByRecursion, filter, sum_by}
-use Rattle.std.specs.List.Sorted.{IsStrictlySortedBy}
-use Rattle.std.specs.Map.{keys_of, lookup}
-use Rattle.std.specs.BTreeMap.{is_at}
-use Rattle.std.specs.declared.cmp.Ordering.TheVariants.{Less}
-use Rattle.std.specs.Ordering.{is_eq}
-use Rattle.std.proofs.lemmas.Map.{lookup-none}
-use Rattle.std.proofs.lemmas.Map.Lookups.{exact_bytes}
+use Rattle.std.proofs.Common.{◌≡◌, ◌∙◌, ℕ, ◌+◌, Bool, true, false, cond, List, [], ◌∷◌, Option, Some, None, refl, sym, ap, zero-add, add-zero, filter, sum_by, Less, is_eq}
+use Rattle.std.specs.{List.{AllByRecursion, Sorted.IsStrictlySortedBy}, Map.{keys_of, lookup}, BTreeMap.is_at}
+use Rattle.std.proofs.lemmas.Map.{lookup-none, Lookups.exact_bytes}
 use Rattle.base_types.specs.Orders.{addr_cmp}
-use Rattle.base_roles.specs.Entries.{at}
-use Rattle.base_roles.specs.Orders.{same_addr}
+use Rattle.base_roles.specs.{Entries.at, Orders.same_addr}
 use Rattle.rule_modules.proofs.OrderLemmas.{same_is}
-use Rattle.mod_tally.specs.declared.choice.Choice.{Choice}
-use Rattle.mod_tally.specs.declared.polls.Poll.{Poll}
-use Rattle.mod_tally.specs.Ballots.{Chosen, is_for}
-use Rattle.mod_tally.specs.Counting.{Polls, worth_at}
-use Rattle.mod_tally.specs.Tally.{Delegations, delegations_to, those_for}
+use Rattle.mod_tally.specs.{declared.{choice.Choice.Choice, polls.Poll.Poll}, Ballots.{Chosen, is_for}}
+use Rattle.mod_tally.specs.{Counting.{Polls, worth_at}, Tally.{Delegations, delegations_to, those_for}}
 use Rattle.mod_tally.proofs.Sums.{sum_alike, sum_both, sum_kept, sum_next, sum_none}
 use Rattle.mod_tally.proofs.Walking.{added, added_all, given, nothing_if}
 

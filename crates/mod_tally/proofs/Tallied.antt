@@ -1,36 +1,24 @@
 -- The count over the items of validators and delegations is the tally.
-use Rattle.std.proofs.Math.Nat.{mul-le-mul_left, mul-le-mul_right}
-use Rattle.std.proofs.lemmas.Bool.{cases_lt}
-use Rattle.std.proofs.Common.{◌≡◌, ◌∙◌, ℕ, ◌+◌, ◌-◌, ◌*◌, ◌^◌, ◌<◌, ◌≤◌, Bool, true, false, cond, List, [], ◌∷◌, length, map, Option, Some, None, inl, inr, refl, sym, ap, subst, arith, zero-add, add-zero}
-use Rattle.std.specs.Prelude.{if◌then◌else◌}
-use Rattle.std.specs.List.{AllByRecursion, IsDistinct, cons_option, filter, filter_map, sum_by}
-use Rattle.std.specs.List.Sorted.{IsPermutation, IsStrictlySortedBy}
-use Rattle.std.specs.Map.{keys_of, values_of}
-use Rattle.std.specs.Ordering.{eq_by_cmp}
+use Rattle.std.proofs.{Math.Nat.{mul-le-mul_left, mul-le-mul_right}, lemmas.Bool.cases_lt}
 use Rattle.std.proofs.lemmas.List.Elements.{All-from_recursion, recursion_from_All}
 use Rattle.std.proofs.lemmas.List.Sorted.{All-permutation, sum_by-IsPermutation}
+use Rattle.std.specs.List.{AllByRecursion, IsDistinct, cons_option, Sorted.IsStrictlySortedBy}
+use Rattle.std.specs.{Map.{keys_of, values_of}, Ordering.eq_by_cmp}
+use Rattle.std.proofs.Common.{◌≡◌, ◌∙◌, ℕ, ◌+◌, ◌-◌, ◌*◌, ◌^◌, ◌<◌, ◌≤◌, Bool, true, false, cond, List, [], ◌∷◌, length, map, Option, Some, None, inl, inr, refl, sym, ap, subst, arith, zero-add, add-zero, if◌then◌else◌, filter, filter_map, sum_by, IsPermutation}
 use Rattle.base_types.specs.Orders.{addr_cmp}
-use Rattle.base_roles.specs.declared.entities.Validator.{Validator}
-use Rattle.base_roles.specs.declared.items.Item.{Item}
-use Rattle.base_roles.specs.declared.items.Item.TheVariants as item
-use Rattle.base_roles.specs.Orders.{same_addr}
+use Rattle.base_roles.specs.{declared.{entities.Validator.Validator, items.Item.Item}, Orders.same_addr}
 use Rattle.base_roles.specs.Staked.{Staked, is_bonded, tokens_where}
+use Rattle.base_roles.specs.declared.items.Item.TheVariants as item
 use Rattle.rule_modules.proofs.OrderLemmas.{addr_total}
 use Rattle.rule_machine.specs.Orders.{in_order}
-use Rattle.mod_tally.specs.declared.choice.Choice.{Choice}
-use Rattle.mod_tally.specs.declared.choice.Choice.TheVariants.{Yes, Abstain, No, Veto}
-use Rattle.mod_tally.specs.declared.outcome.Tally.{Tally}
-use Rattle.mod_tally.specs.declared.polls.Poll.{Poll}
-use Rattle.mod_tally.specs.Ballots.{Chosen, is_for}
+use Rattle.mod_tally.specs.declared.{choice.Choice.{Choice, TheVariants.{Yes, Abstain, No, Veto}}, outcome.Tally.Tally}
+use Rattle.mod_tally.specs.{declared.polls.Poll.Poll, Ballots.{Chosen, is_for}}
 use Rattle.mod_tally.specs.Counting.{CanClose, CanWalk, Polls, Running, bonded_in, closed, nothing_counted, poll_in, poll_of, total_for, walked, worth_at}
-use Rattle.mod_tally.specs.Exact.{values_for}
-use Rattle.mod_tally.specs.Taken.{CanBeTallied, delegation_in, staked_in, validator_in}
+use Rattle.mod_tally.specs.{Exact.values_for, Taken.{CanBeTallied, delegation_in, staked_in, validator_in}}
 use Rattle.mod_tally.specs.Tally.{Delegations, counts, delegations_to, shares_in, stake_for, tally_of, those_cast, those_for, total_of}
 use Rattle.mod_tally.proofs.Entries.{mapped, order_ascends, order_permutes}
-use Rattle.mod_tally.proofs.Exactness.{IsFull, all_full, counts_bonded, totals_most}
-use Rattle.mod_tally.proofs.Parts.{cast_within, counts_some}
-use Rattle.mod_tally.proofs.Sums.{pass_by, sum_alike, sum_both, sum_mapped, sum_next}
-use Rattle.mod_tally.proofs.Swapping.{from_voters, swap}
+use Rattle.mod_tally.proofs.{Exactness.{IsFull, all_full, counts_bonded, totals_most}, Parts.{cast_within, counts_some}}
+use Rattle.mod_tally.proofs.{Sums.{pass_by, sum_alike, sum_both, sum_mapped, sum_next}, Swapping.{from_voters, swap}}
 use Rattle.mod_tally.proofs.Walking.{AreFit, IsFit, IsReady, added_all, close, left_for, more_again, more_for, poll_before, polls_before, taken, walk, with_more}
 
 -- ---- what the count takes of validators

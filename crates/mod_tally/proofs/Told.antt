@@ -1,9 +1,6 @@
 -- Items one after another: what the next one tells.
-use Rattle.std.proofs.Common.{◌≡◌, ◌∙◌, ℕ, ◌+◌, ◌<◌, List, [], ◌∷◌, drop, get_or, length, Option, Some, None, sym, ap}
-use Rattle.std.specs.declared.cmp.Ordering.{Ordering}
-use Rattle.std.specs.BTreeMap.{insert_entry}
-use Rattle.std.specs.List.{cons_option, filter_map, sum_by}
-use Rattle.std.proofs.lemmas.List.{at_drop_more}
+use Rattle.std.proofs.Common.{◌≡◌, ◌∙◌, ℕ, ◌+◌, ◌<◌, List, [], ◌∷◌, drop, get_or, length, Option, Some, None, sym, ap, Ordering, filter_map, sum_by}
+use Rattle.std.{specs.{BTreeMap.insert_entry, List.cons_option}, proofs.lemmas.List.at_drop_more}
 use Rattle.rule_machine.specs.Orders.{entries_with}
 use Rattle.mod_tally.proofs.Sums.{sum_next}
 

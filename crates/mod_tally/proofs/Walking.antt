@@ -1,25 +1,15 @@
 -- What delegations add to the totals and take from validators, one after another, and what operators add in the end.
-use Rattle.std.proofs.Common.{◌≡◌, ◌∙◌, ℕ, ◌+◌, ◌-◌, ◌*◌, ◌^◌, ◌<◌, ◌≤◌, Bool, true, false, cond, List, [], ◌∷◌, map, Option, Some, None, refl, sym, ap, subst, arith, zero-add, add-zero, add_assoc}
-use Rattle.std.specs.Prelude.{is_some, unwrap_or}
-use Rattle.std.specs.List.{AllByRecursion, filter, sum_by}
-use Rattle.std.specs.List.Sorted.{IsStrictlySortedBy}
-use Rattle.std.specs.Map.{keys_of, lookup}
-use Rattle.std.specs.BTreeMap.{is_at}
-use Rattle.std.proofs.lemmas.Map.{none_passes_from_lookup}
-use Rattle.std.proofs.lemmas.Map.Lookups.{exact_bytes}
+use Rattle.std.proofs.Common.{◌≡◌, ◌∙◌, ℕ, ◌+◌, ◌-◌, ◌*◌, ◌^◌, ◌<◌, ◌≤◌, Bool, true, false, cond, List, [], ◌∷◌, map, Option, Some, None, refl, sym, ap, subst, arith, zero-add, add-zero, add_assoc, is_some, unwrap_or, filter, sum_by}
+use Rattle.std.specs.{List.{AllByRecursion, Sorted.IsStrictlySortedBy}, Map.{keys_of, lookup}, BTreeMap.is_at}
+use Rattle.std.proofs.lemmas.Map.{none_passes_from_lookup, Lookups.exact_bytes}
 use Rattle.base_types.specs.Orders.{addr_cmp}
-use Rattle.base_roles.specs.Entries.{at, with}
-use Rattle.base_roles.specs.Orders.{same_addr}
+use Rattle.base_roles.specs.{Entries.{at, with}, Orders.same_addr}
 use Rattle.rule_modules.proofs.OrderLemmas.{addr_total, equal, same_itself}
-use Rattle.mod_tally.specs.declared.choice.Choice.{Choice}
-use Rattle.mod_tally.specs.declared.choice.Choice.TheVariants.{Yes, Abstain, No, Veto}
-use Rattle.mod_tally.specs.declared.outcome.Tally.{Tally}
-use Rattle.mod_tally.specs.declared.polls.Poll.{Poll}
-use Rattle.mod_tally.specs.Ballots.{Chosen, is_for, same_choice}
+use Rattle.mod_tally.specs.declared.{choice.Choice.{Choice, TheVariants.{Yes, Abstain, No, Veto}}, outcome.Tally.Tally}
+use Rattle.mod_tally.specs.{declared.polls.Poll.Poll, Ballots.{Chosen, is_for, same_choice}}
 use Rattle.mod_tally.specs.Counting.{Polls, Running, CanClose, CanCount, CanCountLeft, CanWalk, closed, counted, delegation_counted, left_counted, raised, total_for, walked, worth_at}
 use Rattle.mod_tally.specs.Tally.{Delegations, delegations_to, shares_in, those_cast}
-use Rattle.mod_tally.proofs.Entries.{equal_apart, mapped, mapped_none, mapped_put, mapped_some}
-use Rattle.mod_tally.proofs.Sums.{sum_next}
+use Rattle.mod_tally.proofs.{Entries.{equal_apart, mapped, mapped_none, mapped_put, mapped_some}, Sums.sum_next}
 
 -- ---- totals
 

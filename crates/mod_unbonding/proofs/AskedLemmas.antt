@@ -1,25 +1,17 @@
 -- Messages of unbonding as their rules have them: what is refused first, and what follows.
-use Rattle.std.proofs.Common.{◌≡◌, ◌∙◌, ℕ, ◌≤◌, Bool, true, false, List, Option, Some, None, refl, sym, ap, subst, arith}
-use Rattle.std.specs.Prelude.{Ok, Err, Result, ◌==◌, nat_lt, nat_le, length, if◌then◌else◌}
+use Rattle.std.proofs.Common.{◌≡◌, ◌∙◌, ℕ, ◌≤◌, Bool, true, false, List, Option, Some, None, refl, sym, ap, subst, arith, Ok, Err, Result, ◌==◌, nat_lt, nat_le, length, if◌then◌else◌}
 use Rattle.std.proofs.lemmas.Bool.Decides.{nat_tests}
 use Rattle.base_decimals.specs.declared.over.Over.{Over}
-use Rattle.base_coins.specs.Coins.{Money}
-use Rattle.base_coins.specs.declared.coin.Coin.{Coin}
+use Rattle.base_coins.specs.{Coins.Money, declared.coin.Coin.Coin}
 use Rattle.base_types.specs.declared.account.Account.TheVariants as account
 use Rattle.base_types.specs.declared.account.Module.TheVariants as holder
-use Rattle.base_shares.specs.declared.fault.ShareFault.{ShareFault}
-use Rattle.base_shares.specs.Shares.{shares_for_amount}
-use Rattle.base_roles.specs.declared.entities.Validator.{Validator}
-use Rattle.base_roles.specs.declared.params.Ctx.{Ctx}
-use Rattle.base_roles.specs.declared.refusal.Refusal.{Refusal}
+use Rattle.base_shares.specs.{declared.fault.ShareFault.ShareFault, Shares.shares_for_amount}
+use Rattle.base_roles.specs.declared.{entities.Validator.Validator, params.Ctx.Ctx, refusal.Refusal.Refusal}
 use Rattle.base_roles.specs.declared.refusal.Refusal.TheVariants.{WrongDenom, NonPositive, NoValidator, NoTokens, TooManyShares, UnbondingsFull, Overflow}
-use Rattle.base_roles.specs.Answers.{Follows}
-use Rattle.base_roles.specs.Staked.{Staked, validator_at, delegation, is_bonded}
-use Rattle.base_roles.specs.StakeChanges.{HasShares}
-use Rattle.base_roles.specs.Flow.{◌>>=◌, ◌>>◌, stop_if, or_stop, stopping}
+use Rattle.base_roles.specs.{Answers.Follows, Staked.{Staked, validator_at, delegation, is_bonded}}
+use Rattle.base_roles.specs.{StakeChanges.HasShares, Flow.{◌>>=◌, ◌>>◌, stop_if, or_stop, stopping}}
 use Rattle.base_roles.specs.World.{View, Hook, Told, World, sent, over_view}
-use Rattle.rule_modules.specs.Amounts.{bond_coins}
-use Rattle.rule_modules.specs.Delegating.{is_wrong}
+use Rattle.rule_modules.specs.{Amounts.bond_coins, Delegating.is_wrong}
 use Rattle.rule_modules.specs.Unbonding.{shares_to_unbond, unbonded_shares, unbonded_of, shares_unbonded}
 use Rattle.rule_modules.specs.Unbondings.{UnbondingLists, entries_of, with_entries, completion, grown, undelegated}
 use Rattle.mod_entries.specs.Answers.{AnswersBoth}

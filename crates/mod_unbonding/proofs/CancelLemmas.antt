@@ -1,34 +1,25 @@
 -- Cancelling: what is refused first, what follows, and what stands then.
-use Rattle.std.proofs.Common.{◌≡◌, ◌∙◌, ℕ, ◌+◌, ◌<◌, ◌≤◌, Bool, true, false, List, Option, Some, None, refl, ap, subst, arith}
-use Rattle.std.specs.Prelude.{Ok, Err, Result, ◌==◌, nat_lt, ◌++◌, All, length, find, unwrap_or, ⊤}
-use Rattle.std.proofs.lemmas.Bool.Decides.{nat_tests}
+use Rattle.std.proofs.Common.{◌≡◌, ◌∙◌, ℕ, ◌+◌, ◌<◌, ◌≤◌, Bool, true, false, List, Option, Some, None, refl, ap, subst, arith, Ok, Err, Result, ◌==◌, nat_lt, ◌++◌, All, length, find, unwrap_or}
+use Rattle.std.{specs.Prelude.⊤, proofs.lemmas.Bool.Decides.nat_tests}
 use Rattle.base_coins.specs.declared.coin.Coin.{Coin}
 use Rattle.base_types.specs.declared.status.BondStatus.TheVariants.{Unbonded}
 use Rattle.base_shares.specs.Shares.{has_invalid_rate}
-use Rattle.base_roles.specs.declared.entities.UnbondingEntry.{UnbondingEntry}
-use Rattle.base_roles.specs.declared.entities.Validator.{Validator}
-use Rattle.base_roles.specs.declared.faults.MessageFault.{MessageFault}
-use Rattle.base_roles.specs.declared.faults.MessageFault.TheVariants as stop
-use Rattle.base_roles.specs.declared.refusal.Refusal.{Refusal}
+use Rattle.base_roles.specs.declared.entities.{UnbondingEntry.UnbondingEntry, Validator.Validator}
+use Rattle.base_roles.specs.declared.{faults.MessageFault.MessageFault, refusal.Refusal.Refusal}
 use Rattle.base_roles.specs.declared.refusal.Refusal.TheVariants.{WrongDenom, NonPositive, NoValidator, RateInvalid, Jailed, NoEntry, CancelTooMuch, Overflow}
-use Rattle.base_roles.specs.Answers.{AnswersAs}
-use Rattle.base_roles.specs.Hooks.{Tells, Stand, Lawful}
-use Rattle.base_roles.specs.Log.{Log}
+use Rattle.base_roles.specs.{Answers.AnswersAs, Hooks.{Tells, Stand, Lawful}, Log.Log}
 use Rattle.base_roles.specs.Staked.{Staked, validator_at, delegation, put_validator, lists_of, bonded_tokens, other_tokens}
-use Rattle.base_roles.specs.StakeChanges.{HoldsStake}
-use Rattle.base_roles.specs.Flow.{◌>>=◌, ◌>>◌, stop_if, or_stop, stopping}
+use Rattle.base_roles.specs.{StakeChanges.HoldsStake, Flow.{◌>>=◌, ◌>>◌, stop_if, or_stop, stopping}}
 use Rattle.base_roles.specs.World.{View, Hook, Told, gives, exceeds, World, hooked, modified, over_view, over_mine}
+use Rattle.base_roles.specs.declared.faults.MessageFault.TheVariants as stop
 use Rattle.rule_modules.specs.Delegating.{Origin, is_wrong, pool, paid_in, hook_before, shares_given, delegated}
-use Rattle.rule_modules.specs.Owed.{balances_of, entry_balances}
-use Rattle.rule_modules.specs.Sound.{UnbondingIsSound}
-use Rattle.rule_modules.specs.Stakes.{put_delegation}
+use Rattle.rule_modules.specs.{Owed.{balances_of, entry_balances}, Sound.UnbondingIsSound, Stakes.put_delegation}
 use Rattle.rule_modules.specs.Unbondings.{UnbondingLists, entries_of, with_entries, can_be_cancelled, lowered, cancelled}
 use Rattle.rule_modules.proofs.SoundLemmas.{to_points}
 use Rattle.mod_staking.specs.Calls.{IsSoundStake, HasOrigin, over, behind_log}
-use Rattle.mod_entries.specs.Answers.{AnswersBoth}
-use Rattle.mod_unbonding.specs.Calls.{AreSoundLists, IsWhole, AreWhole, HoldsEntries, cancellation}
-use Rattle.mod_entries.proofs.AnswerLemmas.{answers_no_memory}
 use Rattle.mod_staking.proofs.BackLemmas.{delegated-steps, holds-back}
+use Rattle.mod_entries.{specs.Answers.AnswersBoth, proofs.AnswerLemmas.answers_no_memory}
+use Rattle.mod_unbonding.specs.Calls.{AreSoundLists, IsWhole, AreWhole, HoldsEntries, cancellation}
 use Rattle.mod_unbonding.proofs.ChangeLemmas.{less, all-lowered, length-lowered, balances-lowered}
 use Rattle.mod_unbonding.proofs.EntriesLemmas.{all-entries, all-at, list-at, ascend-entries, total-entries, total-within}
 

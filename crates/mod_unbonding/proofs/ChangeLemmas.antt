@@ -1,13 +1,10 @@
 -- Entries once one is made or grows, and once an amount of one is cancelled.
-use Rattle.std.proofs.Common.{◌≡◌, ℕ, ◌+◌, ◌-◌, ◌≤◌, ◌==◌, Bool, true, false, cond, List, [], ◌∷◌, Some, refl, sym, subst, arith}
-use Rattle.std.specs.Prelude.{◌&&◌, All, length, find, map}
-use Rattle.std.proofs.lemmas.Bool.Decides.{nat_tests}
-use Rattle.std.proofs.lemmas.List.Elements.{All-nil, All-cons, All-head, All-tail, All-weaker}
+use Rattle.std.proofs.Common.{◌≡◌, ℕ, ◌+◌, ◌-◌, ◌≤◌, ◌==◌, Bool, true, false, cond, List, [], ◌∷◌, Some, refl, sym, subst, arith, ◌&&◌, All, length, find, map}
+use Rattle.std.proofs.lemmas.{Bool.Decides.nat_tests, List.Elements.{All-nil, All-cons, All-head, All-tail, All-weaker}}
 use Rattle.std.proofs.lemmas.List.Sums.{sum_by-cons}
 use Rattle.base_roles.specs.declared.entities.UnbondingEntry.{UnbondingEntry}
 use Rattle.base_records.proofs.SameLemmas.{both, number}
-use Rattle.rule_modules.specs.Owed.{balances_of}
-use Rattle.rule_modules.specs.Unbondings.{grown, lowered, can_be_cancelled}
+use Rattle.rule_modules.specs.{Owed.balances_of, Unbondings.{grown, lowered, can_be_cancelled}}
 
 -- a balance, and those of the rest
 pub balances-cons : (e : UnbondingEntry) (es : List UnbondingEntry) → balances_of (e ∷ es) ≡ e.balance + balances_of es

@@ -1,30 +1,19 @@
 -- Completing key by key: what stands after one, the whole, and how many steps they take.
-use Rattle.std.proofs.Common.{◌≡◌, ◌∙◌, ℕ, ◌+◌, ◌*◌, ◌^◌, ◌<◌, ◌≤◌, Bool, true, false, cond, not, List, [], ◌∷◌, drop, refl, sym, ap, subst, arith}
-use Rattle.std.specs.Prelude.{All, filter, map, sum, length, ◌||◌}
-use Rattle.std.specs.List.{list_any}
-use Rattle.std.specs.Map.{values_of}
+use Rattle.std.proofs.Common.{◌≡◌, ◌∙◌, ℕ, ◌+◌, ◌*◌, ◌^◌, ◌<◌, ◌≤◌, Bool, true, false, cond, not, List, [], ◌∷◌, drop, refl, sym, ap, subst, arith, All, filter, map, sum, length, ◌||◌}
+use Rattle.std.specs.{List.list_any, Map.values_of}
+use Rattle.std.proofs.lemmas.List.Elements.{All-nil, All-cons, All-head, All-tail, recursion_from_All}
 use Rattle.base_types.specs.declared.account.Account.TheVariants as account
 use Rattle.base_types.specs.declared.account.Module.TheVariants as holder
-use Rattle.std.proofs.lemmas.List.Elements.{All-nil, All-cons, All-head, All-tail, recursion_from_All}
-use Rattle.base_roles.specs.declared.entities.UnbondingEntry.{UnbondingEntry}
-use Rattle.base_roles.specs.declared.params.Ctx.{Ctx}
-use Rattle.base_roles.specs.Ground.{AreInRange, IsInOrder, end_of_blocks}
-use Rattle.base_roles.specs.Holdings.{balance_of, IsBacked}
-use Rattle.base_roles.specs.Orders.{pair_cmp}
-use Rattle.base_roles.specs.StakeChanges.{HoldsStake}
-use Rattle.base_roles.specs.World.{View}
-use Rattle.rule_modules.specs.Amounts.{count_where}
-use Rattle.rule_modules.specs.EntrySlashes.{unbonding_made}
-use Rattle.rule_modules.specs.Owed.{balances_of, entry_balances}
+use Rattle.base_roles.specs.declared.{entities.UnbondingEntry.UnbondingEntry, params.Ctx.Ctx}
+use Rattle.base_roles.specs.{Ground.{AreInRange, IsInOrder, end_of_blocks}, Holdings.{balance_of, IsBacked}}
+use Rattle.base_roles.specs.{Orders.pair_cmp, StakeChanges.HoldsStake, World.View}
+use Rattle.rule_modules.specs.{Amounts.count_where, EntrySlashes.unbonding_made, Owed.{balances_of, entry_balances}}
 use Rattle.rule_modules.specs.Sound.{UnbondingIsSound}
 use Rattle.rule_modules.specs.Unbondings.{UnbondingLists, entries_of, with_entries, is_mature, paid_back, completed}
 use Rattle.rule_modules.proofs.OrderLemmas.{pair_total}
-use Rattle.mod_entries.specs.Kept.{Kept}
-use Rattle.mod_entries.specs.Walked.{stepped, keys_where, is_due, mature_entries}
-use Rattle.mod_entries.proofs.CountLemmas.{drop_end}
-use Rattle.mod_entries.proofs.WalkedLemmas.{stepped-walked}
-use Rattle.mod_unbonding.specs.Calls.{AreSoundLists, mature_balances}
-use Rattle.mod_unbonding.specs.Walked.{Key, paid_at}
+use Rattle.mod_entries.specs.{Kept.Kept, Walked.{stepped, keys_where, is_due, mature_entries}}
+use Rattle.mod_entries.proofs.{CountLemmas.drop_end, WalkedLemmas.stepped-walked}
+use Rattle.mod_unbonding.specs.{Calls.{AreSoundLists, mature_balances}, Walked.{Key, paid_at}}
 use Rattle.mod_unbonding.proofs.EntriesLemmas.{all-entries, all-at, list-at, ascend-entries, total-entries}
 use Rattle.mod_unbonding.proofs.PaidLemmas.{paid_out, mature-left, ctx-paid, held-paid, IsHeld}
 use Rattle.mod_unbonding.proofs.WalkedLemmas.{completed-walked, stepped-end}

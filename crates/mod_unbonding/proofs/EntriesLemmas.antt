@@ -1,29 +1,17 @@
 -- The entries of one key take the place of others: what holds of all, their order, and their sums.
-use Rattle.std.proofs.Common.{◌≡◌, ◌∙◌, ℕ, ◌+◌, ◌^◌, ◌<◌, ◌≤◌, Bool, true, false, cond, List, [], ◌∷◌, Option, Some, None, refl, sym, ap, subst, arith, inl, inr}
-use Rattle.std.specs.Prelude.{◌⊎◌, All, map, sum, length, unwrap_or}
-use Rattle.std.specs.declared.cmp.Ordering.{Ordering}
-use Rattle.std.specs.declared.cmp.Ordering.TheVariants.{Less, Equal, Greater}
-use Rattle.std.specs.Ordering.{is_eq, match_ordering}
-use Rattle.std.specs.BTreeMap.{insert_entry, is_at}
-use Rattle.std.specs.List.Sorted.{IsStrictlySortedBy}
-use Rattle.std.specs.Map.{keys_of, values_of}
-use Rattle.std.proofs.lemmas.List.Elements.{All-nil, All-weaker}
-use Rattle.std.proofs.lemmas.List.Sums.{sum_by-cons}
-use Rattle.std.proofs.lemmas.Map.{lookup-none}
-use Rattle.std.proofs.lemmas.Map.Entries.{none_below_head}
+use Rattle.std.proofs.Common.{◌≡◌, ◌∙◌, ℕ, ◌+◌, ◌^◌, ◌<◌, ◌≤◌, Bool, true, false, cond, List, [], ◌∷◌, Option, Some, None, refl, sym, ap, subst, arith, inl, inr, ◌⊎◌, All, map, sum, length, unwrap_or, Ordering, Less, Equal, Greater, is_eq}
+use Rattle.std.specs.{Ordering.match_ordering, BTreeMap.{insert_entry, is_at}, List.Sorted.IsStrictlySortedBy}
+use Rattle.std.{specs.Map.{keys_of, values_of}, proofs.lemmas.List.{Elements.{All-nil, All-weaker}, Sums.sum_by-cons}}
+use Rattle.std.proofs.lemmas.Map.{lookup-none, Entries.none_below_head}
 use Rattle.base_types.proofs.MapLemmas.{ascend-taken}
-use Rattle.base_roles.specs.declared.entities.UnbondingEntry.{UnbondingEntry}
-use Rattle.base_roles.specs.Entries.{at, with, without}
+use Rattle.base_roles.specs.{declared.entities.UnbondingEntry.UnbondingEntry, Entries.{at, with, without}}
 use Rattle.base_roles.specs.Orders.{pair_cmp}
-use Rattle.rule_modules.specs.EntrySlashes.{unbonding_made}
-use Rattle.rule_modules.specs.Sound.{UnbondingIsSound}
+use Rattle.rule_modules.specs.{EntrySlashes.unbonding_made, Sound.UnbondingIsSound}
 use Rattle.rule_modules.specs.Unbondings.{UnbondingLists, entries_of, with_entries}
 use Rattle.rule_modules.proofs.EntryLemmas.{at-put, at-taken, ascend-put, from_all, to_all}
-use Rattle.rule_modules.proofs.OrderLemmas.{pair_total, equal}
-use Rattle.rule_modules.proofs.SoundLemmas.{exact_pair, either_some}
+use Rattle.rule_modules.proofs.{OrderLemmas.{pair_total, equal}, SoundLemmas.{exact_pair, either_some}}
 use Rattle.mod_entries.specs.Lists.{list_at, with_list, AreFew}
-use Rattle.mod_unbonding.specs.Calls.{AreSoundLists}
-use Rattle.mod_unbonding.specs.Walked.{Key}
+use Rattle.mod_unbonding.specs.{Calls.AreSoundLists, Walked.Key}
 
 -- ---- as lists by key
 

@@ -1,22 +1,14 @@
 -- Entries that follow a redelegation: what they lose, and what then stands.
-use Rattle.std.proofs.Common.{◌≡◌, ◌∙◌, ℕ, ◌+◌, ◌≤◌, ◌<◌, Bool, true, false, cond, List, [], ◌∷◌, length, drop, refl, sym, ap, subst, arith}
-use Rattle.std.specs.Prelude.{◌-◌, min, All, get_or}
+use Rattle.std.proofs.Common.{◌≡◌, ◌∙◌, ℕ, ◌+◌, ◌≤◌, ◌<◌, Bool, true, false, cond, List, [], ◌∷◌, length, drop, refl, sym, ap, subst, arith, ◌-◌, min, All, get_or}
 use Rattle.std.proofs.lemmas.List.Elements.{All-nil, All-cons, All-head, All-tail}
 use Rattle.base_types.specs.declared.account.Account.TheVariants as account
 use Rattle.base_types.specs.declared.account.Module.TheVariants as holder
-use Rattle.base_roles.specs.declared.entities.UnbondingEntry.{UnbondingEntry}
-use Rattle.base_roles.specs.Ground.{IsInOrder}
-use Rattle.base_roles.specs.Holdings.{balance_of}
-use Rattle.base_roles.specs.Lent.{IsBurned}
-use Rattle.base_roles.specs.StakeChanges.{HoldsStake}
-use Rattle.base_roles.specs.World.{View, burnt}
-use Rattle.rule_modules.specs.EntrySlashes.{is_hit, entries_followed}
-use Rattle.rule_modules.specs.Owed.{balances_of, entry_balances}
-use Rattle.rule_modules.specs.Sound.{UnbondingIsSound}
-use Rattle.rule_modules.specs.Unbondings.{UnbondingLists, entries_of, with_entries}
+use Rattle.base_roles.specs.{declared.entities.UnbondingEntry.UnbondingEntry, Ground.IsInOrder, Holdings.balance_of}
+use Rattle.base_roles.specs.{Lent.IsBurned, StakeChanges.HoldsStake, World.{View, burnt}}
+use Rattle.rule_modules.specs.{EntrySlashes.{is_hit, entries_followed}, Owed.{balances_of, entry_balances}}
+use Rattle.rule_modules.specs.{Sound.UnbondingIsSound, Unbondings.{UnbondingLists, entries_of, with_entries}}
 use Rattle.mod_entries.proofs.CountLemmas.{next_of, drop_end}
-use Rattle.mod_unbonding.specs.Calls.{AreSoundLists}
-use Rattle.mod_unbonding.proofs.ChangeLemmas.{balances-cons}
+use Rattle.mod_unbonding.{specs.Calls.AreSoundLists, proofs.ChangeLemmas.balances-cons}
 use Rattle.mod_unbonding.proofs.EntriesLemmas.{all-entries, all-at, list-at, ascend-entries, total-entries}
 use Rattle.mod_unbonding.proofs.SlashedLemmas.{burned-once}
 

@@ -1,20 +1,11 @@
 -- The items of entries: told by their keys, and with one more.
-use Rattle.std.proofs.Common.{◌≡◌, ℕ, List, Some, refl}
-use Rattle.std.specs.Prelude.{is_some}
-use Rattle.std.specs.List.Sorted.{IsStrictlySortedBy}
-use Rattle.std.specs.Map.{keys_of}
-use Rattle.base_roles.specs.declared.entities.UnbondingEntry.{UnbondingEntry}
-use Rattle.base_roles.specs.declared.items.Item.{Item}
+use Rattle.std.proofs.Common.{◌≡◌, ℕ, List, Some, refl, is_some}
+use Rattle.std.specs.{List.Sorted.IsStrictlySortedBy, Map.keys_of}
+use Rattle.base_roles.specs.{declared.{entities.UnbondingEntry.UnbondingEntry, items.Item.Item}, Entries.with}
+use Rattle.base_roles.specs.{Items.{key_of, IsAdded}, Orders.pair_cmp}
 use Rattle.base_roles.specs.declared.items.Item.TheVariants as item
-use Rattle.base_roles.specs.Entries.{with}
-use Rattle.base_roles.specs.Items.{key_of, IsAdded}
-use Rattle.base_roles.specs.Orders.{pair_cmp}
-use Rattle.rule_modules.specs.Unbondings.{UnbondingLists}
-use Rattle.rule_modules.proofs.OrderLemmas.{pair_total}
-use Rattle.rule_modules.proofs.SoundLemmas.{exact_pair}
-use Rattle.base_records.specs.Items.{AnyValue, IsRowed}
-use Rattle.base_records.proofs.MemberLemmas.{entry-parts}
-use Rattle.base_records.proofs.RowLemmas.{row-added}
+use Rattle.rule_modules.{specs.Unbondings.UnbondingLists, proofs.{OrderLemmas.pair_total, SoundLemmas.exact_pair}}
+use Rattle.base_records.{specs.Items.{AnyValue, IsRowed}, proofs.{MemberLemmas.entry-parts, RowLemmas.row-added}}
 use Rattle.mod_unbonding.specs.Items.{items_of, unbonding_item, unbonding_gone, unbonding_entry, same_entries}
 use Rattle.mod_unbonding.proofs.SameLemmas.{entries-yes, entries-no}
 

@@ -1,28 +1,17 @@
 -- What stands once an amount was unbonded and is kept as an entry: the accounts, and the entries.
-use Rattle.std.proofs.Common.{◌≡◌, ◌∙◌, ℕ, ◌+◌, ◌^◌, ◌<◌, ◌≤◌, Bool, true, false, cond, List, [], Some, refl, sym, ap, subst, arith}
-use Rattle.std.specs.Prelude.{zero, suc, All, length, max, if◌then◌else◌}
-use Rattle.std.proofs.Math.Nat.{le-max_left, le-max_right}
-use Rattle.std.proofs.lemmas.List.Elements.{All-weaker}
+use Rattle.std.proofs.Common.{◌≡◌, ◌∙◌, ℕ, ◌+◌, ◌^◌, ◌<◌, ◌≤◌, Bool, true, false, cond, List, [], Some, refl, sym, ap, subst, arith, zero, suc, All, length, max, if◌then◌else◌}
+use Rattle.std.proofs.{Math.Nat.{le-max_left, le-max_right}, lemmas.List.Elements.All-weaker}
 use Rattle.base_types.specs.declared.account.Account.TheVariants as account
 use Rattle.base_types.specs.declared.account.Module.TheVariants as holder
 use Rattle.base_types.specs.declared.status.BondStatus.TheVariants.{Bonded, Unbonded}
-use Rattle.base_roles.specs.declared.entities.UnbondingEntry.{UnbondingEntry}
-use Rattle.base_roles.specs.declared.entities.Validator.{Validator}
-use Rattle.base_roles.specs.declared.params.Ctx.{Ctx}
-use Rattle.base_roles.specs.Holdings.{balance_of, IsBacked}
-use Rattle.base_roles.specs.Hooks.{Tells, Stand, Keeps}
-use Rattle.base_roles.specs.Owing.{Lists}
+use Rattle.base_roles.specs.declared.{entities.{UnbondingEntry.UnbondingEntry, Validator.Validator}, params.Ctx.Ctx}
+use Rattle.base_roles.specs.{Holdings.{balance_of, IsBacked}, Hooks.{Tells, Stand, Keeps}, Owing.Lists}
 use Rattle.base_roles.specs.Staked.{Staked, validator_at, is_bonded, bonded_tokens, other_tokens}
-use Rattle.base_roles.specs.StakeChanges.{HoldsStake, IsUnbonded}
-use Rattle.base_roles.specs.World.{View}
-use Rattle.base_roles.proofs.HoldingLemmas.{balance-most}
-use Rattle.rule_modules.specs.Delegating.{pool}
-use Rattle.rule_modules.specs.Owed.{balances_of, entry_balances}
-use Rattle.rule_modules.specs.Sound.{UnbondingIsSound}
+use Rattle.base_roles.{specs.{StakeChanges.{HoldsStake, IsUnbonded}, World.View}, proofs.HoldingLemmas.balance-most}
+use Rattle.rule_modules.specs.{Delegating.pool, Owed.{balances_of, entry_balances}, Sound.UnbondingIsSound}
 use Rattle.rule_modules.specs.Unbondings.{UnbondingLists, entries_of, with_entries, grown}
 use Rattle.rule_modules.proofs.SoundLemmas.{to_points}
-use Rattle.mod_staking.specs.Calls.{IsSoundStake}
-use Rattle.mod_staking.proofs.GroundLemmas.{stand-paid, paid-accounts, holds-kept}
+use Rattle.mod_staking.{specs.Calls.IsSoundStake, proofs.GroundLemmas.{stand-paid, paid-accounts, holds-kept}}
 use Rattle.mod_unbonding.specs.Calls.{AreSoundLists, IsWhole, AreWhole, HoldsEntries, moved_out}
 use Rattle.mod_unbonding.proofs.ChangeLemmas.{added, more, all-grown, balances-grown, length-grown, balance-within}
 use Rattle.mod_unbonding.proofs.EntriesLemmas.{all-entries, all-at, ascend-entries, total-entries, total-within}

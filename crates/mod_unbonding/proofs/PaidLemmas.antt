@@ -1,19 +1,12 @@
 -- What paying the mature entries of one key leaves of the accounts, and of the entries.
-use Rattle.std.proofs.Common.{◌≡◌, ◌∙◌, ℕ, ◌+◌, ◌*◌, ◌<◌, ◌≤◌, Bool, true, false, cond, not, List, [], ◌∷◌, drop, length, refl, sym, ap, subst, arith}
-use Rattle.std.specs.Prelude.{zero, suc, filter}
+use Rattle.std.proofs.Common.{◌≡◌, ◌∙◌, ℕ, ◌+◌, ◌*◌, ◌<◌, ◌≤◌, Bool, true, false, cond, not, List, [], ◌∷◌, drop, length, refl, sym, ap, subst, arith, zero, suc, filter}
 use Rattle.base_types.specs.declared.account.Account.TheVariants as account
 use Rattle.base_types.specs.declared.account.Module.TheVariants as holder
-use Rattle.base_roles.specs.declared.entities.UnbondingEntry.{UnbondingEntry}
-use Rattle.base_roles.specs.Holdings.{balance_of, IsBacked}
-use Rattle.base_roles.specs.StakeChanges.{HoldsStake}
-use Rattle.base_roles.specs.World.{View, sent}
-use Rattle.base_roles.specs.declared.params.Ctx.{Ctx}
-use Rattle.rule_modules.specs.Amounts.{bond_coins, count_where}
-use Rattle.rule_modules.specs.Owed.{balances_of}
-use Rattle.rule_modules.specs.Unbondings.{is_mature, paid_back}
+use Rattle.base_roles.specs.{declared.entities.UnbondingEntry.UnbondingEntry, Holdings.{balance_of, IsBacked}}
+use Rattle.base_roles.specs.{StakeChanges.HoldsStake, World.{View, sent}, declared.params.Ctx.Ctx}
+use Rattle.rule_modules.specs.{Amounts.{bond_coins, count_where}, Owed.balances_of, Unbondings.{is_mature, paid_back}}
 use Rattle.mod_entries.proofs.CountLemmas.{drop_end}
-use Rattle.mod_unbonding.specs.Calls.{mature_balances}
-use Rattle.mod_unbonding.proofs.ChangeLemmas.{balances-cons}
+use Rattle.mod_unbonding.{specs.Calls.mature_balances, proofs.ChangeLemmas.balances-cons}
 use Rattle.mod_staking.proofs.GroundLemmas.{moved_one, moved_backed}
 
 -- ---- one payment

@@ -1,6 +1,5 @@
 -- Whether two lists have the same entries, one by one.
-use Rattle.std.specs.Prelude.{◌≡◌, ◌≢◌, suc, ◌&&◌, Bool, true, false, List, [], ◌∷◌, length, refl}
-use Rattle.std.proofs.Common.{sym, ◌∙◌, ap}
+use Rattle.std.proofs.Common.{◌≡◌, ◌≢◌, suc, ◌&&◌, Bool, true, false, List, [], ◌∷◌, length, refl, sym, ◌∙◌, ap}
 use Rattle.base_roles.specs.declared.entities.UnbondingEntry.{UnbondingEntry}
 use Rattle.base_records.proofs.SameLemmas.{both, four, four_itself}
 use Rattle.mod_unbonding.specs.Items.{same_entry, same_entries}

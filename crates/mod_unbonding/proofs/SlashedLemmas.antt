@@ -1,39 +1,23 @@
 -- What a slash of the entries of one key leaves of the entries and of the accounts.
-use Rattle.std.proofs.Common.{◌≡◌, ◌∙◌, ℕ, ◌+◌, ◌-◌, ◌<◌, ◌≤◌, Bool, true, false, cond, List, [], ◌∷◌, drop, get_or, refl, sym, ap, subst, arith}
-use Rattle.std.specs.Prelude.{◌&&◌, All, map, length, min, filter, sum}
-use Rattle.std.specs.BTreeMap.{is_at}
-use Rattle.std.specs.Cmp.{eq_by_cmp_equiv}
-use Rattle.std.proofs.lemmas.List.Sums.{sum_by-cons}
+use Rattle.std.proofs.Common.{◌≡◌, ◌∙◌, ℕ, ◌+◌, ◌-◌, ◌<◌, ◌≤◌, Bool, true, false, cond, List, [], ◌∷◌, drop, get_or, refl, sym, ap, subst, arith, ◌&&◌, All, map, length, min, filter, sum}
+use Rattle.std.{specs.{BTreeMap.is_at, Cmp.eq_by_cmp_equiv, List.AllByRecursion}, proofs.lemmas.List.Sums.sum_by-cons}
 use Rattle.std.proofs.lemmas.List.Elements.{All-nil, All-cons, All-head, All-tail, recursion_from_All}
-use Rattle.std.specs.List.{AllByRecursion}
-use Rattle.base_types.specs.declared.account.Account.{Account}
+use Rattle.base_types.specs.{declared.account.Account.Account, Orders.{account_cmp, denom_cmp}}
 use Rattle.base_types.specs.declared.account.Account.TheVariants as account
 use Rattle.base_types.specs.declared.account.Module.TheVariants as holder
-use Rattle.base_types.specs.Orders.{account_cmp, denom_cmp}
-use Rattle.base_roles.specs.declared.entities.UnbondingEntry.{UnbondingEntry}
-use Rattle.base_roles.specs.Ground.{IsInOrder}
-use Rattle.base_roles.specs.Orders.{pair_cmp, same_addr}
-use Rattle.base_roles.specs.Holdings.{balance_of, IsBacked}
-use Rattle.base_roles.specs.Lent.{IsBurned}
-use Rattle.base_roles.specs.StakeChanges.{of_bond, HoldsStake}
-use Rattle.base_roles.specs.World.{View, burnt}
-use Rattle.base_roles.specs.declared.params.Ctx.{Ctx}
+use Rattle.base_roles.specs.{declared.entities.UnbondingEntry.UnbondingEntry, Ground.IsInOrder}
+use Rattle.base_roles.specs.{Orders.{pair_cmp, same_addr}, Holdings.{balance_of, IsBacked}, Lent.IsBurned}
+use Rattle.base_roles.specs.{StakeChanges.{of_bond, HoldsStake}, World.{View, burnt}, declared.params.Ctx.Ctx}
 use Rattle.base_roles.proofs.HoldingLemmas.{account_total, denom_total}
 use Rattle.base_roles.proofs.BurnLemmas.{burns_by_amounts, burns_lower_supplies}
 use Rattle.rule_modules.proofs.OrderLemmas.{pair_total}
 use Rattle.rule_modules.specs.EntrySlashes.{is_hit, part_of, burned_of, entry_slashed, entries_slashed}
-use Rattle.rule_modules.specs.Owed.{balances_of, entry_balances}
-use Rattle.rule_modules.specs.Sound.{UnbondingIsSound}
+use Rattle.rule_modules.specs.{Owed.{balances_of, entry_balances}, Sound.UnbondingIsSound}
 use Rattle.rule_modules.specs.Unbondings.{UnbondingLists, entries_of, with_entries}
-use Rattle.mod_entries.specs.Lists.{list_at, with_list}
-use Rattle.mod_entries.specs.Slashed.{is_from}
-use Rattle.mod_entries.specs.Walked.{stepped, keys_where}
-use Rattle.mod_entries.proofs.CountLemmas.{next_of, drop_end}
-use Rattle.mod_entries.proofs.WalkedLemmas.{stepped-walked}
-use Rattle.mod_unbonding.specs.Calls.{AreSoundLists}
-use Rattle.mod_unbonding.specs.Walked.{Key, slashed_in, slashed_at}
-use Rattle.mod_unbonding.proofs.ChangeLemmas.{balances-cons}
-use Rattle.mod_unbonding.proofs.CompletedLemmas.{still_in_order}
+use Rattle.mod_entries.specs.{Lists.{list_at, with_list}, Slashed.is_from, Walked.{stepped, keys_where}}
+use Rattle.mod_entries.proofs.{CountLemmas.{next_of, drop_end}, WalkedLemmas.stepped-walked}
+use Rattle.mod_unbonding.specs.{Calls.AreSoundLists, Walked.{Key, slashed_in, slashed_at}}
+use Rattle.mod_unbonding.proofs.{ChangeLemmas.balances-cons, CompletedLemmas.still_in_order}
 use Rattle.mod_unbonding.proofs.WalkedLemmas.{slashed-walked, stepped-end}
 use Rattle.mod_unbonding.proofs.EntriesLemmas.{all-entries, all-at, list-at, ascend-entries, total-entries}
 

@@ -1,16 +1,13 @@
 -- Completing and slashing key by key are the rules' walks over all keys.
-use Rattle.std.proofs.Common.{◌≡◌, ◌∙◌, ℕ, ◌+◌, ◌<◌, Bool, true, false, cond, List, [], ◌∷◌, refl, sym, ap, arith}
-use Rattle.std.specs.Prelude.{suc, length, map}
+use Rattle.std.proofs.Common.{◌≡◌, ◌∙◌, ℕ, ◌+◌, ◌<◌, Bool, true, false, cond, List, [], ◌∷◌, refl, sym, ap, arith, suc, length, map}
 use Rattle.std.specs.List.{AllByRecursion}
 use Rattle.base_types.specs.declared.account.Module.TheVariants as holder
-use Rattle.base_roles.specs.declared.entities.UnbondingEntry.{UnbondingEntry}
-use Rattle.base_roles.specs.Orders.{pair_cmp, same_addr}
+use Rattle.base_roles.specs.{declared.entities.UnbondingEntry.UnbondingEntry, Orders.{pair_cmp, same_addr}}
 use Rattle.base_roles.specs.World.{View, burnt}
 use Rattle.rule_modules.specs.EntrySlashes.{entries_slashed, entry_slashed, burned_of}
 use Rattle.rule_modules.specs.Unbondings.{UnbondingLists, entries_of, with_entries, paid_back, key_then, completed}
 use Rattle.mod_entries.specs.Walked.{Change, walked, stepped}
-use Rattle.mod_unbonding.specs.Walked.{Key, paid_at, slashed_at}
-use Rattle.mod_unbonding.proofs.EntriesLemmas.{with_list-is}
+use Rattle.mod_unbonding.{specs.Walked.{Key, paid_at, slashed_at}, proofs.EntriesLemmas.with_list-is}
 
 -- ---- the rules walk over all keys
 

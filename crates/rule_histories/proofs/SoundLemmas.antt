@@ -1,39 +1,24 @@
 -- The state that a small genesis starts is sound.
-use Rattle.std.proofs.Common.{◌≡◌, ◌∙◌, ℕ, zero, suc, ◌+◌, ◌*◌, ◌^◌, ◌≤◌, ◌<◌, Bool, true, false, cond, nat_lt, List, [], ◌∷◌, Some, None, refl, sym, ap, subst, arith}
-use Rattle.std.specs.Prelude.{◌==◌, nat_le, is_some, All, Contains, IsSome}
-use Rattle.std.specs.BTreeMap.{is_at}
-use Rattle.std.specs.List.Sorted.{IsStrictlySortedBy}
-use Rattle.std.proofs.lemmas.Bool.Decides.{nat_tests}
+use Rattle.std.proofs.Common.{◌≡◌, ◌∙◌, ℕ, zero, suc, ◌+◌, ◌*◌, ◌^◌, ◌≤◌, ◌<◌, Bool, true, false, cond, nat_lt, List, [], ◌∷◌, Some, None, refl, sym, ap, subst, arith, ◌==◌, nat_le, is_some, All, Contains, IsSome}
+use Rattle.std.{specs.{BTreeMap.is_at, List.Sorted.IsStrictlySortedBy}, proofs.lemmas.Bool.Decides.nat_tests}
 use Rattle.std.proofs.lemmas.List.Elements.{All-nil, All-cons}
 use Rattle.base_types.specs.declared.account.Account.TheVariants as account
 use Rattle.base_types.specs.declared.account.Module.TheVariants as holder
-use Rattle.base_types.specs.declared.status.BondStatus.TheVariants.{Bonded}
-use Rattle.base_types.specs.Orders.{addr_cmp}
+use Rattle.base_types.specs.{declared.status.BondStatus.TheVariants.Bonded, Orders.addr_cmp}
 use Rattle.base_coins.specs.Coins.{Money, IsMoney, amount_of}
-use Rattle.base_roles.specs.declared.entities.StartingInfo.{StartingInfo}
-use Rattle.base_roles.specs.declared.entities.Validator.{Validator}
-use Rattle.base_roles.specs.declared.facts.Fact.{Fact}
+use Rattle.base_roles.specs.declared.{entities.{StartingInfo.StartingInfo, Validator.Validator}, facts.Fact.Fact}
+use Rattle.base_roles.specs.{Ground.{IsInOrder, end_of_blocks}, Holdings.IsBacked, Items.no_purse, Orders.pair_cmp}
+use Rattle.base_roles.{specs.{Staked.{Staked, validator_at, lists_of}, World.View}, proofs.HoldingLemmas.backed-moved}
 use Rattle.base_roles.specs.declared.facts.Fact.TheVariants as fact
-use Rattle.base_roles.specs.Ground.{IsInOrder, end_of_blocks}
-use Rattle.base_roles.specs.Holdings.{IsBacked}
-use Rattle.base_roles.specs.Items.{no_purse}
 use Rattle.base_roles.specs.Log as log
-use Rattle.base_roles.specs.Orders.{pair_cmp}
-use Rattle.base_roles.specs.Staked.{Staked, validator_at, lists_of}
-use Rattle.base_roles.specs.World.{View}
-use Rattle.base_roles.proofs.HoldingLemmas.{backed-moved}
-use Rattle.rule_modules.specs.Chain.{State}
-use Rattle.rule_modules.specs.Distribution.{Shared}
-use Rattle.rule_modules.specs.Fixtures.{addr, cons, user, uatom, coins, params, time_of}
-use Rattle.rule_modules.specs.Owed.{HoldsWhatIsOwed}
+use Rattle.rule_modules.specs.{Chain.State, Distribution.Shared}
+use Rattle.rule_modules.specs.{Fixtures.{addr, cons, user, uatom, coins, params, time_of}, Owed.HoldsWhatIsOwed}
 use Rattle.rule_modules.specs.Periods.{Periods, starts_of, ratio_at}
 use Rattle.rule_modules.specs.Sound.{delegated_shares, ValidatorIsSound, StakedIsSound, UnbondingsAreSound, RedelegationsAreSound, PurseIsSound, PursesAreSound, StartIsSound, PeriodsAreSound, RewardsAreSound, StandsFor, SigningIsSound, WindowIsSound, AreRecorded, AreAtMost, denominations_of, IsSound}
 use Rattle.rule_modules.specs.Window.{Signing, signing_of}
-use Rattle.rule_machine.specs.Genesis.{held_at_start}
-use Rattle.rule_machine.specs.GenesisConditions.{accounts_at_start}
-use Rattle.rule_histories.specs.SoundRows.{one_validator, SoundnessIsMet}
-use Rattle.rule_machine.proofs.Kept.{held_backed}
+use Rattle.rule_machine.{specs.{Genesis.held_at_start, GenesisConditions.accounts_at_start}, proofs.Kept.held_backed}
 use Rattle.rule_machine.proofs.Ranges.{in_range}
+use Rattle.rule_histories.specs.SoundRows.{one_validator, SoundnessIsMet}
 
 -- ---- the state
 

@@ -1,15 +1,11 @@
 -- What a block has that may follow a state.
-use Rattle.std.proofs.Common.{◌≡◌, ℕ, ◌+◌, ◌≤◌, ◌<◌, ◌==◌, Bool, true, false, nat_lt, Some, None, Result, Ok, Err, refl, arith}
-use Rattle.std.specs.Prelude.{◌||◌, not, nat_le, if◌then◌else◌, ⊤}
-use Rattle.std.proofs.lemmas.Bool.Decides.{nat_tests}
-use Rattle.base_roles.specs.Ground.{end_of_blocks}
-use Rattle.base_roles.specs.Flow.{◌>>◌}
-use Rattle.base_messages.specs.declared.block.Block.{Block}
-use Rattle.base_messages.specs.declared.faults.BlockFault.{BlockFault}
+use Rattle.std.proofs.Common.{◌≡◌, ℕ, ◌+◌, ◌≤◌, ◌<◌, ◌==◌, Bool, true, false, nat_lt, Some, None, Result, Ok, Err, refl, arith, ◌||◌, not, nat_le, if◌then◌else◌}
+use Rattle.std.{specs.Prelude.⊤, proofs.lemmas.Bool.Decides.nat_tests}
+use Rattle.base_roles.specs.{Ground.end_of_blocks, Flow.{◌>>◌}}
+use Rattle.base_messages.specs.declared.{block.Block.Block, faults.BlockFault.BlockFault}
 use Rattle.base_messages.specs.declared.faults.BlockFault.TheVariants.{BadHeight, BadTime}
 use Rattle.rule_modules.specs.Chain.{State}
-use Rattle.rule_machine.specs.Blocks.{block_fault}
-use Rattle.rule_machine.specs.Machine.{stop_at, block_checked}
+use Rattle.rule_machine.specs.{Blocks.block_fault, Machine.{stop_at, block_checked}}
 
 at_most : (a b : ℕ) → nat_lt a b ≡ false → b ≤ a
 at_most a b e = grind (arith, nat_tests)

@@ -1,17 +1,12 @@
 -- Each transaction ends in one of three ways, whatever messages do, and seven kinds of messages name a condition.
-use Rattle.std.proofs.Common.{◌≡◌, ℕ, ◌+◌, Bool, true, false, List, [], ◌∷◌, Result, Ok, Err, refl, sym, ap, subst, arith}
-use Rattle.std.specs.Prelude.{map}
-use Rattle.base_roles.specs.declared.refusal.Refusal.{Refusal}
+use Rattle.std.proofs.Common.{◌≡◌, ℕ, ◌+◌, Bool, true, false, List, [], ◌∷◌, Result, Ok, Err, refl, sym, ap, subst, arith, map}
+use Rattle.base_roles.specs.{declared.refusal.Refusal.Refusal, Flow.{◌>>=◌, ◌>>◌, stop_if, stopping}}
 use Rattle.base_roles.specs.declared.refusal.Refusal.TheVariants as refused
-use Rattle.base_roles.specs.Flow.{◌>>=◌, ◌>>◌, stop_if, stopping}
-use Rattle.base_messages.specs.declared.block.Tx.{Tx}
-use Rattle.base_messages.specs.declared.message.Msg.{Msg}
+use Rattle.base_messages.specs.declared.{block.Tx.Tx, message.Msg.Msg}
 use Rattle.base_messages.specs.declared.message.Msg.TheVariants as msg
-use Rattle.rule_modules.specs.Chain.{State}
-use Rattle.rule_modules.specs.Effects.{Effect, fee_paid, effects_of, after_fee, stands_or_fee}
+use Rattle.rule_modules.specs.{Chain.State, Effects.{Effect, fee_paid, effects_of, after_fee, stands_or_fee}}
 use Rattle.rule_modules.specs.RefusalOrder.{AreRefusedAnywhere}
-use Rattle.rule_machine.specs.GenesisState.{without_facts}
-use Rattle.rule_machine.specs.Machine.{TxStep, reported_as}
+use Rattle.rule_machine.specs.{GenesisState.without_facts, Machine.{TxStep, reported_as}}
 use Rattle.rule_machine.specs.Promises.{AreCarriedOut, IsStoppedAt, EndsSo, TransactionsEndBy, PlainMessagesNameConditions}
 
 -- a fee is not paid for one reason

@@ -1,28 +1,15 @@
 -- Validators of a genesis of which no condition holds enter one after the other: each is new, under its operator and by its
 -- consensus address, and its rates are rates.
-use Rattle.std.proofs.Common.{◌≡◌, ◌∙◌, ℕ, ◌^◌, ◌≤◌, Bool, true, false, cond, nat_lt, List, [], ◌∷◌, Some, None, refl, ap, arith}
-use Rattle.std.specs.Prelude.{◌||◌, All, find, map}
-use Rattle.std.specs.List.{list_any}
-use Rattle.std.specs.declared.cmp.Ordering.{Ordering}
-use Rattle.std.specs.declared.cmp.Ordering.TheVariants.{Less, Equal, Greater}
-use Rattle.std.specs.Ordering.{is_eq, match_ordering}
-use Rattle.std.specs.BTreeMap.{insert_entry, is_at}
-use Rattle.std.specs.Map.{values_of}
-use Rattle.std.proofs.lemmas.Bool.Decides.{nat_tests}
-use Rattle.std.proofs.lemmas.List.Elements.{All-nil, All-cons, All-head, All-tail}
+use Rattle.std.proofs.Common.{◌≡◌, ◌∙◌, ℕ, ◌^◌, ◌≤◌, Bool, true, false, cond, nat_lt, List, [], ◌∷◌, Some, None, refl, ap, arith, ◌||◌, All, find, map, Ordering, Less, Equal, Greater, is_eq}
+use Rattle.std.specs.{List.list_any, Ordering.match_ordering, BTreeMap.{insert_entry, is_at}, Map.values_of}
+use Rattle.std.proofs.lemmas.{Bool.Decides.nat_tests, List.Elements.{All-nil, All-cons, All-head, All-tail}}
 use Rattle.base_types.specs.Orders.{addr_cmp, cons_cmp}
-use Rattle.base_roles.specs.declared.entities.Validator.{Validator}
-use Rattle.base_roles.specs.declared.params.Params.{Params}
-use Rattle.base_roles.specs.Orders.{same_addr}
-use Rattle.base_roles.specs.Staked.{Staked, validator_at, validator_by_cons, put_validator}
-use Rattle.base_roles.specs.World.{View}
-use Rattle.base_messages.specs.declared.genesis.Genesis.{Genesis}
-use Rattle.base_messages.specs.declared.genesis.GenesisValidator.{GenesisValidator}
-use Rattle.rule_modules.specs.Validators.{are_out_of_range}
+use Rattle.base_roles.specs.{declared.{entities.Validator.Validator, params.Params.Params}, Orders.same_addr}
+use Rattle.base_roles.specs.{Staked.{Staked, validator_at, validator_by_cons, put_validator}, World.View}
+use Rattle.base_messages.specs.declared.genesis.{Genesis.Genesis, GenesisValidator.GenesisValidator}
+use Rattle.rule_modules.{specs.Validators.are_out_of_range, proofs.OrderLemmas.same_back}
 use Rattle.rule_machine.specs.GenesisConditions.{creation_of, has_operator_twice, has_cons_twice, has_wrong_rate, start_condition}
-use Rattle.rule_machine.proofs.StakeLemmas.{Validators, found-put}
-use Rattle.rule_modules.proofs.OrderLemmas.{same_back}
-use Rattle.rule_machine.proofs.StartLemmas.{may_start, entrant, no_stake}
+use Rattle.rule_machine.proofs.{StakeLemmas.{Validators, found-put}, StartLemmas.{may_start, entrant, no_stake}}
 
 -- validators that are still to come: none stands, by its operator or its consensus address, none of them is there twice, and
 -- their rates are rates

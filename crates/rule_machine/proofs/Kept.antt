@@ -1,22 +1,11 @@
 -- What the accounts of a genesis hold is in order, and backed where there is not too much.
-use Rattle.std.proofs.Common.{◌≡◌, ◌∙◌, ℕ, ◌+◌, ◌^◌, ◌≤◌, ◌<◌, Bool, true, false, cond, nat_lt, List, [], ◌∷◌, Option, Some, refl, sym, ap, arith}
-use Rattle.std.specs.Prelude.{All, ◌||◌, unwrap_or}
-use Rattle.std.proofs.lemmas.Bool.Decides.{nat_tests}
-use Rattle.std.proofs.lemmas.List.Elements.{All-nil}
-use Rattle.std.proofs.lemmas.Map.Text.{is_eq-slice_cmp}
-use Rattle.std.proofs.lemmas.Slice.Eq.{bytes_eq-Decides}
-use Rattle.std.specs.declared.cmp.Ordering.{Ordering}
-use Rattle.std.specs.declared.cmp.Ordering.TheVariants.{Less, Equal, Greater}
-use Rattle.std.specs.Ordering.{nat_cmp, ordering_then, is_eq}
-use Rattle.std.specs.Cmp.Lexicographic.{slice_cmp}
-use Rattle.std.specs.BTreeMap.{is_at}
-use Rattle.std.specs.List.Sorted.{IsStrictlySortedBy}
-use Rattle.std.specs.Map.{keys_of, lookup}
-use Rattle.base_types.specs.declared.account.Account.{Account}
-use Rattle.base_types.specs.Orders.{account_cmp, denom_cmp}
+use Rattle.std.proofs.Common.{◌≡◌, ◌∙◌, ℕ, ◌+◌, ◌^◌, ◌≤◌, ◌<◌, Bool, true, false, cond, nat_lt, List, [], ◌∷◌, Option, Some, refl, sym, ap, arith, All, ◌||◌, unwrap_or, Ordering, Less, Equal, Greater, nat_cmp, is_eq}
+use Rattle.std.proofs.lemmas.{Bool.Decides.nat_tests, List.Elements.All-nil, Map.Text.is_eq-slice_cmp}
+use Rattle.std.{proofs.lemmas.Slice.Eq.bytes_eq-Decides, specs.{Ordering.ordering_then, Cmp.Lexicographic.slice_cmp}}
+use Rattle.std.specs.{BTreeMap.is_at, List.Sorted.IsStrictlySortedBy, Map.{keys_of, lookup}}
+use Rattle.base_types.specs.{declared.account.Account.Account, Orders.{account_cmp, denom_cmp}}
 use Rattle.base_coins.specs.Coins.{Money, amount_of, with_amount}
-use Rattle.base_roles.specs.Entries.{number_at, with_number, sum_where}
-use Rattle.base_roles.specs.Holdings.{Balances, IsBacked}
+use Rattle.base_roles.specs.{Entries.{number_at, with_number, sum_where}, Holdings.{Balances, IsBacked}}
 use Rattle.base_roles.specs.Orders.{place_cmp}
 use Rattle.base_roles.proofs.EntryLemmas.{number-after, ascend-after, positive-after, sum-after, Respects}
 use Rattle.base_roles.proofs.HoldingLemmas.{place_total, denom_total, of_denom}

@@ -1,11 +1,8 @@
 -- Validators and delegations stay sound as a validator is delegated to.
-use Rattle.std.proofs.Common.{◌≡◌, ℕ, ◌+◌, ◌<◌, ◌==◌, false, cond, List, Some, ap, subst, arith}
-use Rattle.std.specs.Prelude.{unwrap_or}
+use Rattle.std.proofs.Common.{◌≡◌, ℕ, ◌+◌, ◌<◌, ◌==◌, false, cond, List, Some, ap, subst, arith, unwrap_or}
 use Rattle.std.proofs.lemmas.Bool.Decides.{nat_tests}
-use Rattle.base_roles.specs.declared.entities.Validator.{Validator}
-use Rattle.base_roles.specs.Entries.{with, without, with_number}
-use Rattle.base_roles.specs.Orders.{pair_cmp}
-use Rattle.base_roles.specs.Staked.{Staked, validator_at, delegation}
+use Rattle.base_roles.specs.{declared.entities.Validator.Validator, Entries.{with, without, with_number}}
+use Rattle.base_roles.specs.{Orders.pair_cmp, Staked.{Staked, validator_at, delegation}}
 use Rattle.rule_modules.specs.Sound.{ValidatorIsSound}
 use Rattle.rule_modules.proofs.SoundLemmas.{IsSoundAt, Delegations, put_with, sound-changed}
 

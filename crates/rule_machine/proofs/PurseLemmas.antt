@@ -1,26 +1,14 @@
 -- The coins of an account are a list of coins, and have of each denomination what the account holds.
-use Rattle.std.proofs.Common.{◌≡◌, ◌∙◌, ℕ, ◌+◌, ◌^◌, ◌≤◌, ◌<◌, ◌==◌, ◌&&◌, Bool, true, false, cond, List, [], ◌∷◌, Option, Some, None, refl, sym, ap, subst, arith}
-use Rattle.std.specs.Prelude.{All, unwrap_or}
-use Rattle.std.specs.declared.cmp.Ordering.{Ordering}
-use Rattle.std.specs.declared.cmp.Ordering.TheVariants.{Less, Equal, Greater}
-use Rattle.std.specs.BTreeMap.{is_at}
-use Rattle.std.specs.Cmp.{eq_by_cmp_equiv}
-use Rattle.std.specs.List.{AllByRecursion, cons_option, filter_map}
-use Rattle.std.specs.List.Sorted.{IsStrictlySortedBy}
-use Rattle.std.specs.Map.{keys_of, lookup}
-use Rattle.std.specs.Ordering.{is_eq, ordering_then}
-use Rattle.std.proofs.lemmas.Bool.Decides.{nat_tests}
-use Rattle.std.proofs.lemmas.List.Elements.{All-head, All-tail}
-use Rattle.base_types.specs.declared.account.Account.{Account}
-use Rattle.base_types.specs.Orders.{account_cmp, denom_cmp}
-use Rattle.base_coins.specs.Coins.{Money, IsMoney, amount_of, coin_then}
-use Rattle.base_coins.proofs.Amounts.{same_list}
+use Rattle.std.proofs.Common.{◌≡◌, ◌∙◌, ℕ, ◌+◌, ◌^◌, ◌≤◌, ◌<◌, ◌==◌, ◌&&◌, Bool, true, false, cond, List, [], ◌∷◌, Option, Some, None, refl, sym, ap, subst, arith, All, unwrap_or, Ordering, Less, Equal, Greater, filter_map, is_eq}
+use Rattle.std.specs.{BTreeMap.is_at, Cmp.eq_by_cmp_equiv, List.{AllByRecursion, cons_option}}
+use Rattle.std.specs.{List.Sorted.IsStrictlySortedBy, Map.{keys_of, lookup}, Ordering.ordering_then}
+use Rattle.std.proofs.lemmas.{Bool.Decides.nat_tests, List.Elements.{All-head, All-tail}}
+use Rattle.base_types.specs.{declared.account.Account.Account, Orders.{account_cmp, denom_cmp}}
+use Rattle.base_coins.{specs.Coins.{Money, IsMoney, amount_of, coin_then}, proofs.Amounts.same_list}
 use Rattle.base_coins.proofs.Order.{Above, Rises, money_from_rises}
 use Rattle.base_roles.specs.Entries.{number_at, sum_where}
-use Rattle.base_roles.specs.Holdings.{Balances, Holdings, balance_of, coin_if, coins_of, IsBacked}
-use Rattle.base_roles.specs.Orders.{place_cmp}
-use Rattle.base_roles.proofs.AmountLemmas.{both_at}
-use Rattle.base_roles.proofs.HoldingLemmas.{account_total, denom_total, of_denom}
+use Rattle.base_roles.specs.{Holdings.{Balances, Holdings, balance_of, coin_if, coins_of, IsBacked}, Orders.place_cmp}
+use Rattle.base_roles.proofs.{AmountLemmas.both_at, HoldingLemmas.{account_total, denom_total, of_denom}}
 
 -- the coins of an account among balances
 abbrev pub coins_among : Account → Balances → Money

@@ -1,10 +1,7 @@
 -- The test of ranges tells them.
-use Rattle.std.proofs.Common.{◌≡◌, ℕ, true, Option, Some, None, refl}
-use Rattle.std.specs.Prelude.{is_none}
+use Rattle.std.proofs.Common.{◌≡◌, ℕ, true, Option, Some, None, refl, is_none}
 use Rattle.base_roles.proofs.RangeLemmas as ranges
-use Rattle.base_roles.specs.declared.params.Params.{Params}
-use Rattle.base_roles.specs.Ground.{AreInRange}
-use Rattle.base_roles.specs.Ranges.{out_of_range}
+use Rattle.base_roles.specs.{declared.params.Params.Params, Ground.AreInRange, Ranges.out_of_range}
 use Rattle.rule_machine.specs.Genesis.{are_in_range}
 
 none_is : (r : Option ℕ) → is_none r ≡ true → r ≡ None

@@ -1,21 +1,12 @@
 -- Validators in the order of their operators, as one of them is put.
-use Rattle.std.proofs.Common.{◌≡◌, ℕ, Bool, true, false, cond, List, [], ◌∷◌, Some, refl, subst, arith}
-use Rattle.std.specs.Prelude.{All}
-use Rattle.std.proofs.lemmas.List.Elements.{All-cons, All-head, All-tail}
-use Rattle.std.specs.declared.cmp.Ordering.{Ordering}
-use Rattle.std.specs.declared.cmp.Ordering.TheVariants.{Less, Equal, Greater}
-use Rattle.std.specs.Ordering.{match_ordering}
+use Rattle.std.proofs.Common.{◌≡◌, ℕ, Bool, true, false, cond, List, [], ◌∷◌, Some, refl, subst, arith, All, Ordering, Less, Equal, Greater}
+use Rattle.std.{proofs.lemmas.List.Elements.{All-cons, All-head, All-tail}, specs.Ordering.match_ordering}
 use Rattle.std.specs.BTreeMap.{insert_entry}
-use Rattle.base_types.specs.declared.status.BondStatus.{BondStatus}
-use Rattle.base_types.specs.declared.status.BondStatus.TheVariants.{Bonded, Unbonding, Unbonded}
+use Rattle.base_types.specs.declared.status.BondStatus.{BondStatus, TheVariants.{Bonded, Unbonding, Unbonded}}
 use Rattle.base_types.specs.Orders.{addr_cmp}
-use Rattle.base_roles.specs.declared.entities.Validator.{Validator}
-use Rattle.base_roles.specs.Entries.{at, with}
-use Rattle.base_roles.specs.Orders.{same_addr}
+use Rattle.base_roles.specs.{declared.entities.Validator.Validator, Entries.{at, with}, Orders.same_addr}
 use Rattle.base_roles.specs.Staked.{tokens_where, is_bonded, is_unbonded}
-use Rattle.rule_modules.proofs.EntryLemmas.{at-put, from_all}
-use Rattle.rule_modules.proofs.OrderLemmas.{addr_total}
-use Rattle.rule_modules.proofs.SoundLemmas.{exact_addr}
+use Rattle.rule_modules.proofs.{EntryLemmas.{at-put, from_all}, OrderLemmas.addr_total, SoundLemmas.exact_addr}
 use Rattle.rule_modules.proofs.TokenLemmas.{counted}
 
 -- validators by operator

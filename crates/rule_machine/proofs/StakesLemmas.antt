@@ -1,20 +1,12 @@
 -- What a new validator has: nobody else its consensus address, and rates that are rates.
-use Rattle.std.proofs.Common.{◌≡◌, ◌∙◌, ℕ, ◌^◌, ◌≤◌, Bool, true, false, cond, nat_lt, List, [], ◌∷◌, Some, None, refl, sym, ap, arith}
-use Rattle.std.specs.Prelude.{◌||◌, find}
-use Rattle.std.specs.Cmp.{eq_by_cmp_equiv}
-use Rattle.std.specs.Map.{values_of}
-use Rattle.std.specs.Ordering.{is_eq}
-use Rattle.std.proofs.lemmas.Bool.Decides.{nat_tests}
+use Rattle.std.proofs.Common.{◌≡◌, ◌∙◌, ℕ, ◌^◌, ◌≤◌, Bool, true, false, cond, nat_lt, List, [], ◌∷◌, Some, None, refl, sym, ap, arith, ◌||◌, find, is_eq}
+use Rattle.std.{specs.{Cmp.eq_by_cmp_equiv, Map.values_of}, proofs.lemmas.Bool.Decides.nat_tests}
 use Rattle.base_types.specs.Orders.{addr_cmp, cons_cmp}
-use Rattle.base_roles.specs.declared.entities.Validator.{Validator}
-use Rattle.base_roles.specs.declared.messages.CreateValidator.{CreateValidator}
-use Rattle.base_roles.specs.Entries.{at}
-use Rattle.base_roles.specs.Orders.{same_addr}
-use Rattle.rule_modules.specs.Sound.{ValidatorIsSound}
-use Rattle.rule_modules.specs.Validators.{new_validator, are_out_of_range}
-use Rattle.rule_modules.proofs.SoundLemmas.{later}
+use Rattle.base_roles.specs.declared.{entities.Validator.Validator, messages.CreateValidator.CreateValidator}
+use Rattle.base_roles.specs.{Entries.at, Orders.same_addr}
+use Rattle.rule_modules.specs.{Sound.ValidatorIsSound, Validators.{new_validator, are_out_of_range}}
+use Rattle.rule_modules.proofs.{SoundLemmas.later, OrderLemmas.addr_total}
 use Rattle.rule_machine.proofs.StakeLemmas.{Validators, some_is}
-use Rattle.rule_modules.proofs.OrderLemmas.{addr_total}
 
 -- ---- consensus addresses
 

@@ -1,60 +1,35 @@
 -- A genesis of which no condition holds, over staking alone: its validators stand, and each of its delegations is added.
-use Rattle.std.proofs.Common.{◌≡◌, ◌∙◌, ℕ, ◌+◌, ◌*◌, ◌^◌, ◌≤◌, ◌<◌, Bool, true, false, cond, nat_lt, List, [], ◌∷◌, Option, Some, None, Result, Ok, Err, refl, sym, ap, subst, arith}
-use Rattle.std.specs.Prelude.{◌==◌, ◌/◌, ◌++◌, not, ◌||◌, ◌&&◌, nat_le, All, IsSome, is_some, map, sum, if◌then◌else◌}
-use Rattle.std.specs.Cmp.{eq_by_cmp_equiv}
-use Rattle.std.specs.List.{list_any}
-use Rattle.std.specs.List.Sorted.{IsStrictlySortedBy}
-use Rattle.std.specs.Map.{keys_of}
-use Rattle.std.specs.BTreeMap.{is_at}
-use Rattle.std.proofs.lemmas.Bool.Decides.{nat_tests}
-use Rattle.std.proofs.lemmas.List.Elements.{All-nil, All-cons, All-head, All-tail, All-weaker}
-use Rattle.std.proofs.Math.Nat.{mul_right_comm}
-use Rattle.std.proofs.lemmas.List.Sums.{sum_by-cons}
-use Rattle.std.proofs.lemmas.Nat.{div-mul-add}
-use Rattle.base_decimals.specs.declared.over.Over.{Over}
-use Rattle.base_decimals.specs.Decimals.{below, add_of, sum_over, quotient_over}
-use Rattle.base_types.specs.declared.account.Account.{Account}
+use Rattle.std.proofs.Common.{◌≡◌, ◌∙◌, ℕ, ◌+◌, ◌*◌, ◌^◌, ◌≤◌, ◌<◌, Bool, true, false, cond, nat_lt, List, [], ◌∷◌, Option, Some, None, Result, Ok, Err, refl, sym, ap, subst, arith, ◌==◌, ◌/◌, ◌++◌, not, ◌||◌, ◌&&◌, nat_le, All, IsSome, is_some, map, sum, if◌then◌else◌}
+use Rattle.std.specs.{Cmp.eq_by_cmp_equiv, List.{list_any, Sorted.IsStrictlySortedBy}, Map.keys_of, BTreeMap.is_at}
+use Rattle.std.proofs.lemmas.{Bool.Decides.nat_tests, List.Elements.{All-nil, All-cons, All-head, All-tail, All-weaker}}
+use Rattle.std.proofs.{Math.Nat.mul_right_comm, lemmas.{List.Sums.sum_by-cons, Nat.div-mul-add}}
+use Rattle.base_decimals.specs.{declared.over.Over.Over, Decimals.{below, add_of, sum_over, quotient_over}}
+use Rattle.base_types.specs.declared.{account.{Account.Account, Module.Module}, status.BondStatus.BondStatus}
+use Rattle.base_types.specs.{declared.status.BondStatus.TheVariants.{Bonded, Unbonding, Unbonded}, Orders.addr_cmp}
 use Rattle.base_types.specs.declared.account.Account.TheVariants as account
-use Rattle.base_types.specs.declared.account.Module.{Module}
 use Rattle.base_types.specs.declared.account.Module.TheVariants as holder
-use Rattle.base_types.specs.declared.status.BondStatus.{BondStatus}
-use Rattle.base_types.specs.declared.status.BondStatus.TheVariants.{Bonded, Unbonding, Unbonded}
-use Rattle.base_types.specs.Orders.{addr_cmp}
 use Rattle.base_coins.specs.Coins.{Money, coin_then}
-use Rattle.base_shares.specs.declared.fault.ShareFault.{ShareFault}
+use Rattle.base_shares.specs.{declared.fault.ShareFault.ShareFault, Shares.or_over}
 use Rattle.base_shares.specs.declared.fault.ShareFault.TheVariants as share
-use Rattle.base_shares.specs.Shares.{or_over}
-use Rattle.base_roles.specs.declared.entities.Validator.{Validator}
-use Rattle.base_roles.specs.declared.refusal.Refusal.{Refusal}
+use Rattle.base_roles.specs.declared.{entities.Validator.Validator, refusal.Refusal.Refusal}
 use Rattle.base_roles.specs.declared.refusal.Refusal.TheVariants.{TinyDelegation, Overflow, NoValidator}
-use Rattle.base_roles.specs.Entries.{with, number_at, with_number}
-use Rattle.base_roles.specs.Ground.{IsInOrder, end_of_blocks}
-use Rattle.base_roles.specs.Holdings.{Balances, balance_of}
-use Rattle.base_roles.specs.NoHooks.{nothing_told}
-use Rattle.base_roles.specs.Orders.{place_cmp, same_addr}
+use Rattle.base_roles.specs.{Entries.{with, number_at, with_number}, Ground.{IsInOrder, end_of_blocks}}
+use Rattle.base_roles.specs.{Holdings.{Balances, balance_of}, NoHooks.nothing_told, Orders.{place_cmp, same_addr}}
 use Rattle.base_roles.specs.Staked.{Staked, validator_at, put_validator, is_bonded, is_unbonded, tokens_where, other_tokens}
-use Rattle.base_roles.specs.Flow.{◌>>=◌, ◌>>◌, stop_if, or_stop, stopping, each}
-use Rattle.base_roles.specs.World.{View}
-use Rattle.base_roles.proofs.EntryLemmas.{number-after, ascend-after}
-use Rattle.base_roles.proofs.HoldingLemmas.{place_total, balance-most}
-use Rattle.base_messages.specs.declared.genesis.Genesis.{Genesis}
-use Rattle.base_messages.specs.declared.genesis.GenesisAccount.{GenesisAccount}
-use Rattle.base_messages.specs.declared.genesis.GenesisDelegation.{GenesisDelegation}
-use Rattle.base_messages.specs.declared.genesis.GenesisValidator.{GenesisValidator}
-use Rattle.rule_modules.specs.Delegating.{pool, shares_given, paid_in, delegated}
-use Rattle.rule_modules.specs.Stakes.{refusal_of_shares}
-use Rattle.rule_modules.specs.Validators.{new_validator}
-use Rattle.rule_modules.specs.Withdrawals.{is_module}
+use Rattle.base_roles.specs.{Flow.{◌>>=◌, ◌>>◌, stop_if, or_stop, stopping, each}, World.View}
+use Rattle.base_roles.proofs.{EntryLemmas.{number-after, ascend-after}, HoldingLemmas.{place_total, balance-most}}
+use Rattle.base_messages.specs.declared.genesis.{Genesis.Genesis, GenesisAccount.GenesisAccount}
+use Rattle.base_messages.specs.declared.genesis.{GenesisDelegation.GenesisDelegation, GenesisValidator.GenesisValidator}
+use Rattle.rule_modules.specs.{Delegating.{pool, shares_given, paid_in, delegated}, Stakes.refusal_of_shares}
+use Rattle.rule_modules.specs.{Validators.new_validator, Withdrawals.is_module}
+use Rattle.rule_modules.proofs.{OrderLemmas.{addr_total, same_back}, EntryLemmas.ascend-put}
+use Rattle.rule_modules.proofs.TokenLemmas.{tokens-put, tokens-within, counted}
 use Rattle.rule_machine.specs.Founding.{no_hook, IsStarting}
 use Rattle.rule_machine.specs.Genesis.{are_in_range, has_wrong_account, has_too_much, denominations_with, supplies_with, balances_with, with_coins, first_that_holds}
 use Rattle.rule_machine.specs.GenesisConditions.{creation_of, has_operator_twice, has_cons_twice, has_wrong_rate, has_no_minimum, validates, has_unknown_operator, has_pair_twice, has_empty_delegation, has_lonely_validator, delegated_coins, accounts_at_start, start_condition}
 use Rattle.rule_machine.specs.GenesisState.{ground_at_start, validator_added, delegation_added}
-use Rattle.rule_machine.proofs.Kept.{held_backed}
-use Rattle.rule_machine.proofs.Ranges.{in_range}
+use Rattle.rule_machine.proofs.{Kept.held_backed, Ranges.in_range}
 use Rattle.rule_machine.proofs.StakeLemmas.{Validators, found-put, all-put, all-found, tokens-none, other-counted}
-use Rattle.rule_modules.proofs.OrderLemmas.{addr_total, same_back}
-use Rattle.rule_modules.proofs.EntryLemmas.{ascend-put}
-use Rattle.rule_modules.proofs.TokenLemmas.{tokens-put, tokens-within, counted}
 use Rattle.rule_machine.proofs.UnhookedLemmas.{over, as_staked, grown_stake, delegation_added_is}
 
 -- ---- no condition holds

@@ -1,20 +1,13 @@
 -- Under hooks that do nothing a delegation of the genesis does the same whatever they hold: what rules do over validators,
 -- delegations and a ground alone.
-use Rattle.std.proofs.Common.{◌≡◌, ◌∙◌, ℕ, ◌+◌, List, [], Option, Some, None, Result, Ok, Err, refl, ap}
-use Rattle.std.specs.Prelude.{unwrap_or}
-use Rattle.base_roles.specs.declared.entities.Validator.{Validator}
-use Rattle.base_roles.specs.declared.refusal.Refusal.{Refusal}
-use Rattle.base_roles.specs.declared.refusal.Refusal.TheVariants.{NoValidator}
-use Rattle.base_roles.specs.NoHooks.{nothing_told}
-use Rattle.base_roles.specs.Staked.{Staked, validator_at, delegation, put_validator}
-use Rattle.base_roles.specs.Flow.{◌>>=◌, or_stop}
-use Rattle.base_roles.specs.World.{View, World}
+use Rattle.std.proofs.Common.{◌≡◌, ◌∙◌, ℕ, ◌+◌, List, [], Option, Some, None, Result, Ok, Err, refl, ap, unwrap_or}
+use Rattle.base_roles.specs.declared.{entities.Validator.Validator, refusal.Refusal.{Refusal, TheVariants.NoValidator}}
+use Rattle.base_roles.specs.{NoHooks.nothing_told, Staked.{Staked, validator_at, delegation, put_validator}}
+use Rattle.base_roles.specs.{Flow.{◌>>=◌, or_stop}, World.{View, World}}
 use Rattle.base_messages.specs.declared.genesis.GenesisDelegation.{GenesisDelegation}
-use Rattle.rule_modules.specs.Delegating.{Origin, pool, shares_given, paid_in, delegated}
-use Rattle.rule_modules.specs.Stakes.{put_delegation}
+use Rattle.rule_modules.specs.{Delegating.{Origin, pool, shares_given, paid_in, delegated}, Stakes.put_delegation}
 use Rattle.base_types.specs.declared.status.BondStatus.TheVariants.{Unbonded}
-use Rattle.rule_machine.specs.Founding.{no_hook}
-use Rattle.rule_machine.specs.GenesisState.{delegation_added}
+use Rattle.rule_machine.specs.{Founding.no_hook, GenesisState.delegation_added}
 
 -- validators and delegations over a ground, and what hooks hold, without a log
 abbrev pub over : {H : Type 0} → H → Staked → View → World Staked H

@@ -1,34 +1,23 @@
 -- What is so wherever an undelegation or a withdrawal is carried out.
-use Rattle.std.proofs.Common.{◌≡◌, ℕ, ◌+◌, ◌<◌, ◌≤◌, ◌==◌, Bool, true, false, List, [], ◌∷◌, ◌++◌, length, Result, Ok, Err, arith, length-append}
-use Rattle.std.specs.Prelude.{IfOk, if◌then◌else◌, nat_le}
+use Rattle.std.proofs.Common.{◌≡◌, ℕ, ◌+◌, ◌<◌, ◌≤◌, ◌==◌, Bool, true, false, List, [], ◌∷◌, ◌++◌, length, Result, Ok, Err, arith, length-append, IfOk, if◌then◌else◌, nat_le}
 use Rattle.base_decimals.specs.declared.over.Over.{Over}
 use Rattle.base_types.specs.declared.account.Account.{Account}
 use Rattle.base_types.specs.declared.account.Account.TheVariants as account
 use Rattle.base_types.specs.declared.account.Module.TheVariants as holder
-use Rattle.base_coins.specs.Coins.{Money, fractions, whole_coins}
-use Rattle.base_coins.specs.declared.coin.Coin.{Coin}
+use Rattle.base_coins.specs.{Coins.{Money, fractions, whole_coins}, declared.coin.Coin.Coin}
 use Rattle.base_shares.specs.Shares.{value_cut_of, value_even_of}
-use Rattle.base_roles.specs.declared.entities.Validator.{Validator}
-use Rattle.base_roles.specs.declared.facts.Fact.{Fact}
-use Rattle.base_roles.specs.declared.facts.Fact.TheVariants as fact
-use Rattle.base_roles.specs.declared.refusal.Refusal.{Refusal}
+use Rattle.base_roles.specs.declared.{entities.Validator.Validator, facts.Fact.Fact, refusal.Refusal.Refusal}
 use Rattle.base_roles.specs.declared.refusal.Refusal.TheVariants.{NonPositive, NoValidator, NoDelegation, WrongDenom, UnbondingsFull, Overflow}
-use Rattle.base_roles.specs.Flow.{◌>>=◌, stopping}
-use Rattle.base_roles.specs.Holdings.{transfer_told}
-use Rattle.base_roles.specs.Log.{Log}
-use Rattle.base_roles.specs.Staked.{Staked, delegation, validator_at}
-use Rattle.base_roles.specs.World.{View}
-use Rattle.rule_modules.specs.Accepted.{UndelegationsFindRoom, WithdrawalsTell}
-use Rattle.rule_modules.specs.Amounts.{is_empty}
-use Rattle.rule_modules.specs.Chain.{State, chain_told, staked_in}
-use Rattle.rule_modules.specs.Conditions.{has_most_unbondings}
+use Rattle.base_roles.specs.{Flow.{◌>>=◌, stopping}, Holdings.transfer_told, Log.Log}
+use Rattle.base_roles.specs.{Staked.{Staked, delegation, validator_at}, World.View}
+use Rattle.base_roles.specs.declared.facts.Fact.TheVariants as fact
+use Rattle.rule_modules.specs.{Accepted.{UndelegationsFindRoom, WithdrawalsTell}, Amounts.is_empty}
+use Rattle.rule_modules.specs.{Chain.{State, chain_told, staked_in}, Conditions.has_most_unbondings}
 use Rattle.rule_modules.specs.Delegating.{is_wrong}
 use Rattle.rule_modules.specs.Distribution.{Shared, current_taken, ended, payee_of, reward_due, reward_renewed, reward_withdrawn}
 use Rattle.rule_modules.specs.Periods.{last_ended, period_ended, periods_of, reward_at, start_of}
-use Rattle.rule_modules.specs.Purses.{paid_out, pooled_told}
-use Rattle.rule_modules.specs.Unbonding.{shares_to_unbond}
-use Rattle.rule_modules.specs.Unbondings.{entries_of, undelegated}
-use Rattle.rule_modules.specs.Withdrawals.{reward_taken}
+use Rattle.rule_modules.specs.{Purses.{paid_out, pooled_told}, Unbonding.shares_to_unbond}
+use Rattle.rule_modules.specs.{Unbondings.{entries_of, undelegated}, Withdrawals.reward_taken}
 use Rattle.rule_modules.proofs.GoingLemmas.{from_if, if_ok, on_bind, on_found, on_stop}
 
 -- ---- room

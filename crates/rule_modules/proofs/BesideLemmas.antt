@@ -1,19 +1,15 @@
 -- Slashes call the hooks of distribution alone, beside the window, which does nothing there: unbonding does with it what it
 -- does without.
-use Rattle.std.proofs.Common.{◌≡◌, ℕ, ◌-◌, ◌==◌, Bool, true, false, List, [], ◌++◌, refl, sym, ap, subst, ◌∙◌, Result, Ok, Err, append-nil}
-use Rattle.std.specs.Prelude.{◌&&◌, ◌||◌, if◌then◌else◌}
+use Rattle.std.proofs.Common.{◌≡◌, ℕ, ◌-◌, ◌==◌, Bool, true, false, List, [], ◌++◌, refl, sym, ap, subst, ◌∙◌, Result, Ok, Err, append-nil, ◌&&◌, ◌||◌, if◌then◌else◌}
 use Rattle.base_decimals.specs.declared.over.Over.{Over}
 use Rattle.base_shares.specs.Shares.{amount_out}
-use Rattle.base_roles.specs.declared.entities.Validator.{Validator}
+use Rattle.base_roles.specs.{declared.entities.Validator.Validator, Pair.{and_then, given_with}}
+use Rattle.base_roles.specs.{Staked.{Staked, is_unbonded, put_validator}, Flow.{◌>>=◌}}
+use Rattle.base_roles.specs.World.{View, Hook, Told, gives, exceeds, World, hooked, call, noted, over_view, over_mine, logged, modifying, modified}
 use Rattle.base_roles.specs.declared.facts.Fact.TheVariants as fact
 use Rattle.base_roles.specs.Log as log
-use Rattle.base_roles.specs.Pair.{and_then, given_with}
-use Rattle.base_roles.specs.Staked.{Staked, is_unbonded, put_validator}
-use Rattle.base_roles.specs.Flow.{◌>>=◌}
-use Rattle.base_roles.specs.World.{View, Hook, Told, gives, exceeds, World, hooked, call, noted, over_view, over_mine, logged, modifying, modified}
 use Rattle.base_roles.specs.World as hook
-use Rattle.rule_modules.specs.Chain.{Hooks, chain_told}
-use Rattle.rule_modules.specs.Distribution.{Shared, distribution_told}
+use Rattle.rule_modules.specs.{Chain.{Hooks, chain_told}, Distribution.{Shared, distribution_told}}
 use Rattle.rule_modules.specs.Stakes.{put_delegation, without_shares, without_validator}
 use Rattle.rule_modules.specs.Unbonding.{put_in_jail, falls_below_minimum, left_standing, removed_if_empty, validator_removed, unbonded_shares}
 use Rattle.rule_modules.specs.Window.{Window, window_told}

@@ -1,15 +1,8 @@
 -- What holds of all entries, by what stands at each key.
-use Rattle.std.proofs.Common.{◌≡◌, Bool, true, false, cond, List, [], ◌∷◌, Some, None, refl, ap}
-use Rattle.std.specs.Prelude.{All, Contains}
-use Rattle.std.specs.declared.cmp.Ordering.{Ordering}
-use Rattle.std.specs.declared.cmp.Ordering.TheVariants.{Equal}
-use Rattle.std.specs.Cmp.{IsTotalOrder, eq_by_cmp_equiv}
-use Rattle.std.specs.List.Sorted.{IsStrictlySortedBy}
-use Rattle.std.specs.Map.{keys_of}
+use Rattle.std.proofs.Common.{◌≡◌, Bool, true, false, cond, List, [], ◌∷◌, Some, None, refl, ap, All, Contains, Ordering, Equal}
+use Rattle.std.specs.{Cmp.{IsTotalOrder, eq_by_cmp_equiv}, List.Sorted.IsStrictlySortedBy, Map.keys_of, BTreeMap.is_at}
 use Rattle.std.proofs.lemmas.List.Elements.{All-weaker, All-contains, All-contains_itself}
-use Rattle.std.proofs.lemmas.Map.Keys.{IsDistinct-from_sorted}
-use Rattle.std.proofs.lemmas.Map.Views.{Contains-from_lookup, lookup-from_Contains}
-use Rattle.std.specs.BTreeMap.{is_at}
+use Rattle.std.proofs.lemmas.Map.{Keys.IsDistinct-from_sorted, Views.{Contains-from_lookup, lookup-from_Contains}}
 use Rattle.base_roles.specs.Entries.{at, without}
 use Rattle.base_types.proofs.MapLemmas.{equal}
 pub use Rattle.base_types.proofs.MapLemmas.{at-put, at-taken, ascend-put}

@@ -1,11 +1,7 @@
 -- The orders of the keys: they are total, and tell all keys apart.
-use Rattle.std.specs.Prelude.{◌≡◌, ℕ, ◌&&◌, true, List}
-use Rattle.std.specs.Cmp.{IsTotalOrder, tied_itself, tied_then, on_total, then_total, eq_by_cmp_equiv}
-use Rattle.std.specs.Ordering.{is_eq}
-use Rattle.std.specs.BTreeMap.{is_at}
-use Rattle.std.proofs.Common.{sym, ap}
-use Rattle.std.proofs.lemmas.Cmp.{nat_list_cmp_total}
-use Rattle.std.proofs.lemmas.Map.Lookups.{exact_bytes}
+use Rattle.std.proofs.Common.{◌≡◌, ℕ, ◌&&◌, true, List, is_eq, sym, ap}
+use Rattle.std.specs.{Cmp.{IsTotalOrder, tied_itself, tied_then, on_total, then_total, eq_by_cmp_equiv}, BTreeMap.is_at}
+use Rattle.std.proofs.lemmas.{Cmp.nat_list_cmp_total, Map.Lookups.exact_bytes}
 use Rattle.base_types.specs.Orders.{addr_cmp, cons_cmp}
 use Rattle.base_roles.specs.Orders.{pair_cmp, same_addr}
 pub use Rattle.base_types.proofs.MapLemmas.{equal}

@@ -1,21 +1,13 @@
 -- Parameters that change: what holds where they may, what refuses where they may not, and what stays.
-use Rattle.std.proofs.Common.{◌≡◌, ℕ, ◌≤◌, Bool, true, false, List, [], ◌∷◌, length, Option, Some, None, refl, ap, arith}
-use Rattle.std.specs.Prelude.{◌==◌, not, option_map, min, take, map, if◌then◌else◌, IfOk, Ok}
-use Rattle.std.specs.BTreeMap.{is_at}
-use Rattle.std.specs.Map.{keys_of}
-use Rattle.std.proofs.lemmas.Bool.Decides.{nat_tests}
-use Rattle.std.proofs.lemmas.List.{length-take}
+use Rattle.std.proofs.Common.{◌≡◌, ℕ, ◌≤◌, Bool, true, false, List, [], ◌∷◌, length, Option, Some, None, refl, ap, arith, ◌==◌, not, option_map, min, take, map, if◌then◌else◌, IfOk, Ok, length-take}
+use Rattle.std.{specs.{BTreeMap.is_at, Map.keys_of}, proofs.lemmas.Bool.Decides.nat_tests}
 use Rattle.base_types.specs.Orders.{cons_cmp, denom_cmp}
-use Rattle.base_coins.proofs.Amounts.{is_equal}
-use Rattle.base_coins.proofs.Order.{same_name}
+use Rattle.base_coins.proofs.{Amounts.is_equal, Order.same_name}
 use Rattle.base_roles.specs.declared.params.Params.{Params}
 use Rattle.base_roles.specs.declared.refusal.Refusal.TheVariants.{NotAuthority, ParamRange, ParamFixed}
-use Rattle.base_roles.specs.Flow.{◌>>◌, stop_if}
-use Rattle.base_roles.specs.Orders.{same_addr}
-use Rattle.base_roles.specs.Ranges.{out_of_range, unless}
+use Rattle.base_roles.specs.{Flow.{◌>>◌, stop_if}, Orders.same_addr, Ranges.{out_of_range, unless}}
 use Rattle.base_roles.proofs.RangeLemmas.{unless_none}
-use Rattle.rule_modules.specs.Chain.{State}
-use Rattle.rule_modules.specs.Conditions.{when, first_of}
+use Rattle.rule_modules.specs.{Chain.State, Conditions.{when, first_of}}
 use Rattle.rule_modules.specs.Parameters.{fixed_changed, may_update, refused_for, update_params, with_updated}
 use Rattle.rule_modules.specs.RefusalOrder.{refused_in, refusal_of, against_update}
 use Rattle.rule_modules.specs.Window.{Signing, Window, signing_of, votes_kept, window_resized}

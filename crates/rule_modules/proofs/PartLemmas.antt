@@ -1,15 +1,11 @@
 -- Parts of an amount, and whole coins in units of 10^-18, number by number.
-use Rattle.std.proofs.Common.{◌≡◌, ℕ, ◌+◌, ◌-◌, ◌*◌, ◌^◌, ◌<◌, ◌≤◌, Bool, true, false, cond, List, [], ◌∷◌, Some, Ok, Err, refl, sym, ap, subst, arith, nat_lt, mul-le-mul_right, le_of_mul-le-mul_right}
-use Rattle.std.specs.Prelude.{unwrap_or, if◌then◌else◌}
-use Rattle.std.specs.BTreeMap.{is_at}
-use Rattle.std.specs.Map.{lookup}
-use Rattle.base_decimals.specs.declared.over.Over.{Over}
-use Rattle.base_decimals.specs.Decimals.{below, digits_36, mul_cut_of, quo_cut_of}
+use Rattle.std.proofs.Common.{◌≡◌, ℕ, ◌+◌, ◌-◌, ◌*◌, ◌^◌, ◌<◌, ◌≤◌, Bool, true, false, cond, List, [], ◌∷◌, Some, Ok, Err, refl, sym, ap, subst, arith, nat_lt, mul-le-mul_right, le_of_mul-le-mul_right, unwrap_or, if◌then◌else◌}
+use Rattle.std.specs.{BTreeMap.is_at, Map.lookup}
+use Rattle.base_decimals.specs.{declared.over.Over.Over, Decimals.{below, digits_36, mul_cut_of, quo_cut_of}}
 use Rattle.base_decimals.specs.Rounding.{cut}
 use Rattle.base_shares.proofs.Roundings.{cut_low, cut_high}
 use Rattle.base_types.specs.Orders.{denom_cmp}
-use Rattle.base_coins.specs.Coins.{Money, amount_of}
-use Rattle.base_coins.proofs.Order.{Above, same_name, amount-above}
+use Rattle.base_coins.{specs.Coins.{Money, amount_of}, proofs.Order.{Above, same_name, amount-above}}
 use Rattle.base_coins.proofs.Amounts.{is_equal}
 use Rattle.rule_modules.specs.Amounts.{in_units}
 

@@ -1,38 +1,28 @@
 -- Messages whose refusals are those of their conditions in every state.
-use Rattle.std.specs.Prelude.{◌≡◌, ℕ, ◌+◌, ◌-◌, ◌^◌, ◌==◌, Bool, true, false, not, nat_lt, nat_le, List, [], ◌∷◌, ◌++◌, Option, Some, None, option_map, unwrap_or, is_none, Result, Ok, Err, refl}
-use Rattle.std.proofs.Common.{sym, ◌∙◌, ap}
+use Rattle.std.proofs.Common.{◌≡◌, ℕ, ◌+◌, ◌-◌, ◌^◌, ◌==◌, Bool, true, false, not, nat_lt, nat_le, List, [], ◌∷◌, ◌++◌, Option, Some, None, option_map, unwrap_or, is_none, Result, Ok, Err, refl, sym, ◌∙◌, ap}
 use Rattle.base_decimals.specs.Decimals.{trunc_of}
-use Rattle.base_types.specs.declared.account.Account.{Account}
+use Rattle.base_types.specs.{declared.account.Account.Account, Orders.addr_cmp}
 use Rattle.base_types.specs.declared.account.Account.TheVariants as account
 use Rattle.base_types.specs.declared.account.Module.TheVariants as holder
-use Rattle.base_types.specs.Orders.{addr_cmp}
 use Rattle.base_coins.specs.Coins.{Money}
 use Rattle.base_shares.specs.Shares.{value_even_of}
-use Rattle.base_roles.specs.declared.entities.Purse.{Purse}
-use Rattle.base_roles.specs.declared.entities.Validator.{Validator}
-use Rattle.base_roles.specs.declared.facts.Fact.TheVariants as fact
-use Rattle.base_roles.specs.declared.messages.EditValidator.{EditValidator}
+use Rattle.base_roles.specs.declared.{entities.{Purse.Purse, Validator.Validator}, messages.EditValidator.EditValidator}
 use Rattle.base_roles.specs.declared.refusal.Refusal.{Refusal}
 use Rattle.base_roles.specs.declared.refusal.Refusal.TheVariants.{InsufficientFunds, ModuleRecipient, NonPositive, NoValidator, CommissionRange, CommissionBelowMinimum, CommissionTooSoon, CommissionAboveMax, CommissionStep, MinSelfNotPositive, SelfBelowMinimum, MinSelfNotRaised, NotJailed, NoSelfDelegation, StillJailed, Tombstoned, NoCommission, PoolTooSmall, NotAuthority, WithdrawFixed}
-use Rattle.base_roles.specs.Entries.{at, with}
-use Rattle.base_roles.specs.Holdings.{is_short}
-use Rattle.base_roles.specs.Log.{Log}
-use Rattle.base_roles.specs.Log as log
-use Rattle.base_roles.specs.Orders.{same_addr}
-use Rattle.base_roles.specs.Staked.{validator_at, delegation, put_validator}
-use Rattle.base_roles.specs.Flow.{◌>>=◌, ◌>>◌, stop_if, or_stop}
+use Rattle.base_roles.specs.{Entries.{at, with}, Holdings.is_short, Log.Log, Orders.same_addr}
+use Rattle.base_roles.specs.{Staked.{validator_at, delegation, put_validator}, Flow.{◌>>=◌, ◌>>◌, stop_if, or_stop}}
 use Rattle.base_roles.specs.World.{View, sent, noted, over_view, over_mine}
-use Rattle.rule_modules.specs.Amounts.{is_empty, in_units, seconds}
-use Rattle.rule_modules.specs.Chain.{State, with_shared}
-use Rattle.rule_modules.specs.Conditions.{when, first_of}
-use Rattle.rule_modules.specs.Distribution.{Shared, payee_of, paid_to}
+use Rattle.base_roles.specs.declared.facts.Fact.TheVariants as fact
+use Rattle.base_roles.specs.Log as log
+use Rattle.rule_modules.specs.{Amounts.{is_empty, in_units, seconds}, Chain.{State, with_shared}}
+use Rattle.rule_modules.specs.{Conditions.{when, first_of}, Distribution.{Shared, payee_of, paid_to}}
 use Rattle.rule_modules.specs.Effects.{send, coins_sent, edit_validator, unjail, set_withdraw_address, withdraw_commission, community_pool_spend}
 use Rattle.rule_modules.specs.Purses.{with_purse, commission_due, commission_paid, is_above_pool, pool_lowered}
 use Rattle.rule_modules.specs.RefusalOrder.{refused_in, refusal_of, AreRefusedAnywhere, against_send, against_payee, against_commission, against_spend, against_leaving, against_unjail, against_edit, against_rate, against_minimum}
 use Rattle.rule_modules.specs.Validators.{edited, rate_edited, minimum_edited}
-use Rattle.rule_modules.proofs.ParameterLemmas.{updates_refused}
 use Rattle.rule_modules.specs.Window.{Signing, signing_of, may_leave, unjailed}
 use Rattle.rule_modules.specs.Withdrawals.{payee_set, commission_withdrawn, pool_spent, is_module}
+use Rattle.rule_modules.proofs.ParameterLemmas.{updates_refused}
 
 -- one condition, then the others
 pub stop_step : {A : Type 0} (b : Bool) (why : Refusal) (next : Result A Refusal) (rest : List (Option Refusal)) → refused_in next ≡ first_of rest → refused_in (stop_if b why >> next) ≡ first_of (when b why ∷ rest)

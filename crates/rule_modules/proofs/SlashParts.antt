@@ -1,36 +1,29 @@
 -- The rules of a slash, of a vote and of a piece of evidence, taken apart once: what holds of each step holds of the whole.
-use Rattle.std.proofs.Common.{◌≡◌, ℕ, ◌+◌, ◌-◌, ◌≤◌, ◌==◌, Bool, true, false, List, [], ◌∷◌, map, filter, Option, Some, None, Result, Ok, Err, min, refl, subst, sym, arith, ◌<◌, ◌++◌, ◌∙◌, ap, cond}
-use Rattle.std.specs.Prelude.{◌||◌, IfOk, if◌then◌else◌, not, sum, unwrap_or, ⊤}
+use Rattle.std.proofs.Common.{◌≡◌, ℕ, ◌+◌, ◌-◌, ◌≤◌, ◌==◌, Bool, true, false, List, [], ◌∷◌, map, filter, Option, Some, None, Result, Ok, Err, min, refl, subst, sym, arith, ◌<◌, ◌++◌, ◌∙◌, ap, cond, ◌||◌, IfOk, if◌then◌else◌, not, sum, unwrap_or}
+use Rattle.std.{specs.Prelude.⊤, proofs.lemmas.Bool.Decides.nat_tests}
 use Rattle.base_decimals.specs.declared.over.Over.{Over}
 use Rattle.base_types.specs.Orders.{cons_cmp}
-use Rattle.base_roles.specs.declared.entities.RedelegationEntry.{RedelegationEntry}
-use Rattle.base_roles.specs.declared.entities.Validator.{Validator}
-use Rattle.base_roles.specs.declared.facts.Fact.TheVariants as fact
-use Rattle.base_roles.specs.declared.messages.Evidence.{Evidence}
-use Rattle.base_types.specs.declared.account.Module.TheVariants as holder
-use Rattle.base_roles.specs.declared.messages.Vote.{Vote}
-use Rattle.base_roles.specs.Entries.{with}
-use Rattle.base_roles.specs.Flow.{◌>>=◌}
-use Rattle.base_roles.specs.Lent.{jail_told}
-use Rattle.base_roles.specs.Orders.{same_addr}
+use Rattle.base_roles.specs.declared.entities.{RedelegationEntry.RedelegationEntry, Validator.Validator}
+use Rattle.base_roles.specs.{declared.messages.{Evidence.Evidence, Vote.Vote}, Entries.with, Flow.{◌>>=◌}}
+use Rattle.base_roles.specs.{Lent.jail_told, Orders.same_addr}
 use Rattle.base_roles.specs.Staked.{Staked, delegation, is_unbonded, put_validator, validator_at, validator_by_cons}
 use Rattle.base_roles.specs.World.{View, Hook, Told, World, burnt, noted, over_mine, over_view, hooked, logged}
+use Rattle.base_roles.specs.Log.{Log}
+use Rattle.base_roles.specs.declared.facts.Fact.TheVariants as fact
+use Rattle.base_types.specs.declared.account.Module.TheVariants as holder
 use Rattle.rule_modules.specs.Chain.{Stakes, State, beside_window, evidence_step, staked_in, vote_step, with_staked, with_window, chain_told}
 use Rattle.rule_modules.specs.Distribution.{Shared, distribution_told, ended, told_of}
 use Rattle.rule_modules.specs.EntrySlashes.{all_counted, burned_at_target, counted, counted_of, entries_slashed, entry_hit, followed, is_hit, part_left, part_of, plain_following, redelegation_made, redelegations_slashed, shares_hit, sources_slashed, targets_slashed, burned_of, entry_slashed}
 use Rattle.rule_modules.specs.Evidence.{Bans, equivocation_handled, evidence_weighed, forever, is_too_old, jailed_if_not, window_bans}
 use Rattle.rule_modules.specs.Redelegations.{RedelegationLists}
 use Rattle.rule_modules.specs.Slashing.{Slashes, core_slashes, jail_lent, jailed_of, plain_slash, rest_slashed, slash_amount, slashed, slashed_at, staked_unbonds, slash_fraction, slash_told}
-use Rattle.rule_modules.specs.Stakes.{pool_of}
-use Rattle.rule_modules.specs.Unbonding.{shares_unbonded, unbonded_of, unbonded_shares}
+use Rattle.rule_modules.specs.{Stakes.pool_of, Unbonding.{shares_unbonded, unbonded_of, unbonded_shares}}
 use Rattle.rule_modules.specs.Unbondings.{UnbondingLists}
 use Rattle.rule_modules.specs.Window.{Signing, Window, is_downtime, reset_at, signing_of, vote_counted, voted}
-use Rattle.rule_modules.proofs.GoingLemmas.{from_if, mapped_stops, on_bind, same_ok, step_parts}
-use Rattle.std.proofs.lemmas.Bool.Decides.{nat_tests}
-use Rattle.base_roles.specs.Log.{Log}
-use Rattle.base_roles.specs.Log as log
 use Rattle.rule_modules.specs.Periods.{event_recorded, periods_of, with_periods}
+use Rattle.rule_modules.proofs.GoingLemmas.{from_if, mapped_stops, on_bind, same_ok, step_parts}
 use Rattle.rule_modules.proofs.BesideLemmas.{raised, raised_answer, unbonded_same}
+use Rattle.base_roles.specs.Log as log
 
 -- ---- all that staking holds, after each step of a slash
 

@@ -1,21 +1,15 @@
 -- Sound validators and delegations, said of each operator and each delegation, and how they stay so as validators join, take
 -- the place of one another and are delegated to.
-use Rattle.std.proofs.Common.{◌≡◌, ◌∙◌, ℕ, ◌+◌, ◌<◌, ◌≤◌, ◌==◌, Bool, true, false, cond, List, [], ◌∷◌, Option, Some, None, refl, sym, ap, subst, arith, inl, inr}
-use Rattle.std.specs.Prelude.{◌&&◌, ◌⊎◌, All, Contains, IsSome, is_some}
-use Rattle.std.specs.BTreeMap.{is_at}
+use Rattle.std.proofs.Common.{◌≡◌, ◌∙◌, ℕ, ◌+◌, ◌<◌, ◌≤◌, ◌==◌, Bool, true, false, cond, List, [], ◌∷◌, Option, Some, None, refl, sym, ap, subst, arith, inl, inr, ◌&&◌, ◌⊎◌, All, Contains, IsSome, is_some, Equal}
+use Rattle.std.specs.{BTreeMap.is_at, List.Sorted.IsStrictlySortedBy, Map.{keys_of, values_of}}
 use Rattle.std.proofs.lemmas.Bool.Decides.{nat_tests}
-use Rattle.std.specs.declared.cmp.Ordering.TheVariants.{Equal}
-use Rattle.std.specs.List.Sorted.{IsStrictlySortedBy}
-use Rattle.std.specs.Map.{keys_of, values_of}
 use Rattle.std.proofs.lemmas.List.Elements.{All-head, All-tail, All-weaker, All-map, All-contains}
-use Rattle.std.proofs.lemmas.Map.Lookups.{exact_bytes, exact_pairs}
-use Rattle.std.proofs.lemmas.Map.Made.{Contains-values_of}
+use Rattle.std.proofs.lemmas.Map.{Lookups.{exact_bytes, exact_pairs}, Made.Contains-values_of}
 use Rattle.std.proofs.lemmas.Map.Views.{Contains-from_lookup}
 use Rattle.base_types.specs.Orders.{addr_cmp}
 use Rattle.base_roles.specs.declared.entities.Validator.{Validator}
 use Rattle.base_roles.specs.Entries.{at, with, without, number_at, with_number, sum_where}
-use Rattle.base_roles.specs.Orders.{pair_cmp, same_addr}
-use Rattle.base_roles.specs.Staked.{Staked, validator_at, put_validator}
+use Rattle.base_roles.specs.{Orders.{pair_cmp, same_addr}, Staked.{Staked, validator_at, put_validator}}
 use Rattle.base_roles.proofs.EntryLemmas.{ascend-after, sum-after, number-within}
 use Rattle.rule_modules.specs.Sound.{StakedIsSound, ValidatorIsSound, delegated_shares}
 use Rattle.rule_modules.proofs.EntryLemmas.{at-put, at-taken, ascend-put, from_all, to_all}

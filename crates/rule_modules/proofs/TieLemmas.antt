@@ -1,42 +1,21 @@
 -- How tests, rings, references and rewards tie to what the definitions say in words.
-use Rattle.std.specs.Prelude.{◌≡◌, ℕ, ◌+◌, ◌==◌, cond, Bool, true, List, [], ◌∷◌, ◌++◌, length, take, drop, reverse, ◌%◌, refl}
-use Rattle.std.proofs.Common.{sym, ◌∙◌, ap, arith}
-use Rattle.std.proofs.lemmas.Grind.{common_steps, reverse_onto}
-use Rattle.std.proofs.lemmas.List.{take-append-drop}
-use Rattle.std.proofs.lemmas.Bool.Decides.{nat_tests}
-use Rattle.base_coins.specs.Coins.{coins_added, coins_taken, coins_mul_cut}
-use Rattle.base_roles.specs.declared.entities.Validator.{Validator}
-use Rattle.base_roles.specs.Flow.{◌>>=◌}
-use Rattle.rule_modules.specs.Amounts.{count_where}
-use Rattle.rule_modules.specs.BondedSet.{IsInBondedSet, is_in_bonded_set}
-use Rattle.rule_modules.specs.Periods.{earned}
-use Rattle.std.specs.Prelude.{◌<◌, ◌&&◌, not, false, nat_lt, Any, ◌↔◌, bytes_eq}
-use Rattle.std.specs.Bool.{Decides}
-use Rattle.std.proofs.lemmas.List.Folds.{Any-from_list_any, list_any-from_Any}
-use Rattle.std.proofs.lemmas.Map.Text.{is_eq-slice_cmp}
+use Rattle.std.proofs.Common.{◌≡◌, ℕ, ◌+◌, ◌==◌, cond, Bool, true, List, [], ◌∷◌, ◌++◌, length, take, drop, reverse, ◌%◌, refl, sym, ◌∙◌, ap, arith, take-append-drop, ◌<◌, ◌&&◌, not, false, nat_lt, Any, ◌↔◌, bytes_eq, Decides, Result, Ok, Err, ◌^◌, if◌then◌else◌}
+use Rattle.std.proofs.lemmas.{Grind.{common_steps, reverse_onto}, Bool.Decides.nat_tests}
+use Rattle.std.proofs.lemmas.{List.Folds.{Any-from_list_any, list_any-from_Any}, Map.Text.is_eq-slice_cmp}
 use Rattle.std.proofs.lemmas.Slice.Eq.{bytes_eq-Decides}
-use Rattle.base_decimals.specs.Decimals.{trunc_of}
-use Rattle.base_shares.specs.Shares.{value_even_of}
-use Rattle.base_roles.specs.declared.entities.RedelegationEntry.{RedelegationEntry}
-use Rattle.base_roles.specs.declared.entities.UnbondingEntry.{UnbondingEntry}
-use Rattle.base_roles.specs.declared.params.Ctx.{Ctx}
-use Rattle.std.specs.Prelude.{Result, Ok, Err, ◌^◌, if◌then◌else◌}
-use Rattle.base_decimals.specs.declared.over.Over.{Over}
-use Rattle.base_decimals.specs.Decimals.{add_of, sum_over}
-use Rattle.base_shares.specs.declared.fault.ShareFault.{ShareFault}
-use Rattle.base_shares.specs.declared.fault.ShareFault.TheVariants as share
-use Rattle.base_shares.specs.Shares.{issued_shares}
-use Rattle.base_roles.specs.declared.refusal.Refusal.{Refusal}
-use Rattle.base_roles.specs.declared.refusal.Refusal.TheVariants.{TinyDelegation, Overflow}
-use Rattle.base_roles.specs.Flow.{◌>>◌, stop_if, stopping}
-use Rattle.rule_modules.specs.Stakes.{refusal_of_shares}
-use Rattle.base_roles.specs.Orders.{same_addr}
-use Rattle.base_roles.specs.Staked.{is_unbonded}
-use Rattle.rule_modules.specs.Redelegations.{RedelegationLists, IsTransitive, is_transitive}
-use Rattle.rule_modules.specs.Unbonding.{FallsBelowMinimum, falls_below_minimum}
-use Rattle.rule_modules.specs.Unbondings.{IsMature, is_mature}
+use Rattle.base_coins.specs.Coins.{coins_added, coins_taken, coins_mul_cut}
+use Rattle.base_roles.specs.{declared.entities.Validator.Validator, Flow.{◌>>=◌, ◌>>◌, stop_if, stopping}}
+use Rattle.base_roles.specs.declared.entities.{RedelegationEntry.RedelegationEntry, UnbondingEntry.UnbondingEntry}
+use Rattle.base_roles.specs.declared.{params.Ctx.Ctx, refusal.Refusal.{Refusal, TheVariants.{TinyDelegation, Overflow}}}
+use Rattle.base_roles.specs.{Orders.same_addr, Staked.is_unbonded}
+use Rattle.rule_modules.specs.{Amounts.count_where, BondedSet.{IsInBondedSet, is_in_bonded_set}, Periods.earned}
+use Rattle.rule_modules.specs.{Stakes.refusal_of_shares, Redelegations.{RedelegationLists, IsTransitive, is_transitive}}
+use Rattle.rule_modules.specs.{Unbonding.{FallsBelowMinimum, falls_below_minimum}, Unbondings.{IsMature, is_mature}}
 use Rattle.rule_modules.specs.Window.{Signing, IsDowntime, is_downtime, allowed_of, missed_of}
 use Rattle.rule_modules.specs.Ties.{TestsDecide, SetIsDecided, RingCountsMisses, SameReward, ReferencesAfterEnd, ReferencesAfterStart, ReferencesAfterEvent}
+use Rattle.base_decimals.specs.{Decimals.{trunc_of, add_of, sum_over}, declared.over.Over.Over}
+use Rattle.base_shares.specs.{Shares.{value_even_of, issued_shares}, declared.fault.ShareFault.ShareFault}
+use Rattle.base_shares.specs.declared.fault.ShareFault.TheVariants as share
 
 -- the test of the bonded set is the relation
 in_set : (reduction most : ℕ) (vs : List Validator) (v : Validator) → is_in_bonded_set reduction most vs v ≡ true → IsInBondedSet reduction most vs v

@@ -1,18 +1,9 @@
 -- What is owed to validators, as one of them changes.
-use Rattle.std.proofs.Common.{◌≡◌, ℕ, ◌+◌, ◌≤◌, Bool, true, false, cond, List, [], ◌∷◌, Some, None, refl, ap, arith}
-use Rattle.std.specs.declared.cmp.Ordering.{Ordering}
-use Rattle.std.specs.declared.cmp.Ordering.TheVariants.{Less, Equal, Greater}
-use Rattle.std.specs.Ordering.{is_eq, match_ordering}
-use Rattle.std.specs.List.Sorted.{IsStrictlySortedBy}
-use Rattle.std.specs.Map.{keys_of}
-use Rattle.std.specs.BTreeMap.{insert_entry, is_at}
-use Rattle.std.proofs.lemmas.Map.{lookup-none}
-use Rattle.std.proofs.lemmas.Map.Entries.{none_below_head}
-use Rattle.base_types.specs.declared.status.BondStatus.{BondStatus}
-use Rattle.base_types.specs.Orders.{addr_cmp}
-use Rattle.base_roles.specs.declared.entities.Validator.{Validator}
-use Rattle.base_roles.specs.Entries.{at, with, without}
-use Rattle.base_roles.specs.Orders.{same_addr}
+use Rattle.std.proofs.Common.{◌≡◌, ℕ, ◌+◌, ◌≤◌, Bool, true, false, cond, List, [], ◌∷◌, Some, None, refl, ap, arith, Ordering, Less, Equal, Greater, is_eq}
+use Rattle.std.specs.{Ordering.match_ordering, List.Sorted.IsStrictlySortedBy, Map.keys_of}
+use Rattle.std.{specs.BTreeMap.{insert_entry, is_at}, proofs.lemmas.Map.{lookup-none, Entries.none_below_head}}
+use Rattle.base_types.specs.{declared.status.BondStatus.BondStatus, Orders.addr_cmp}
+use Rattle.base_roles.specs.{declared.entities.Validator.Validator, Entries.{at, with, without}, Orders.same_addr}
 use Rattle.base_roles.specs.Staked.{tokens_where}
 use Rattle.rule_modules.proofs.OrderLemmas.{addr_total}
 

@@ -1,16 +1,8 @@
 -- The sum of what is read of entries, as one of them is put, joins or is taken.
-use Rattle.std.proofs.Common.{◌≡◌, ℕ, ◌+◌, ◌≤◌, Bool, true, false, cond, List, [], ◌∷◌, map, Some, None, refl, ap, arith}
-use Rattle.std.specs.Prelude.{sum}
-use Rattle.std.specs.declared.cmp.Ordering.{Ordering}
-use Rattle.std.specs.declared.cmp.Ordering.TheVariants.{Less, Equal, Greater}
-use Rattle.std.specs.Ordering.{is_eq, match_ordering}
-use Rattle.std.specs.List.Sorted.{IsStrictlySortedBy}
-use Rattle.std.specs.Map.{keys_of, values_of}
-use Rattle.std.specs.BTreeMap.{insert_entry, is_at}
-use Rattle.std.specs.Cmp.{IsTotalOrder}
-use Rattle.std.proofs.lemmas.List.Sums.{sum_by-cons}
-use Rattle.std.proofs.lemmas.Map.{lookup-none}
-use Rattle.std.proofs.lemmas.Map.Entries.{none_below_head}
+use Rattle.std.proofs.Common.{◌≡◌, ℕ, ◌+◌, ◌≤◌, Bool, true, false, cond, List, [], ◌∷◌, map, Some, None, refl, ap, arith, sum, Ordering, Less, Equal, Greater, is_eq}
+use Rattle.std.specs.{Ordering.match_ordering, List.Sorted.IsStrictlySortedBy, Map.{keys_of, values_of}}
+use Rattle.std.{specs.{BTreeMap.{insert_entry, is_at}, Cmp.IsTotalOrder}, proofs.lemmas.List.Sums.sum_by-cons}
+use Rattle.std.proofs.lemmas.Map.{lookup-none, Entries.none_below_head}
 use Rattle.base_roles.specs.Entries.{at, with, without}
 
 module _ {K X : Type 0} (cmp : K → K → Ordering) (o : IsTotalOrder cmp) (f : X → ℕ) where

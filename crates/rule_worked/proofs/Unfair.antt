@@ -1,11 +1,9 @@
 -- A reward above the ideal one is not fair.
-use Rattle.std.proofs.Common.{◌≡◌, ℕ, ◌*◌, ◌/◌, ◌^◌, ◌≤◌, false, [], refl, arith, sym, subst, ◌∙◌, Option, Some, None}
-use Rattle.std.specs.Prelude.{nat_le}
+use Rattle.std.proofs.Common.{◌≡◌, ℕ, ◌*◌, ◌/◌, ◌^◌, ◌≤◌, false, [], refl, arith, sym, subst, ◌∙◌, Option, Some, None, nat_le}
 use Rattle.std.proofs.lemmas.Bool.Decides.{nat_tests}
 use Rattle.base_coins.specs.Coins.{Money, amount_of}
 use Rattle.base_roles.specs.Log.{Log}
-use Rattle.rule_modules.specs.Fixtures.{addr, uatom}
-use Rattle.rule_modules.specs.Ideal.{Span, Brackets, span_of, history_of}
+use Rattle.rule_modules.specs.{Fixtures.{addr, uatom}, Ideal.{Span, Brackets, span_of, history_of}}
 use Rattle.law_rewards.specs.Withdrawals.{IsFairReward}
 use Rattle.rule_worked.specs.WrongRules.{halved, passed_over, third_taken, stake_between, PassedOverIsUnfair, CutFractionIsUnfair}
 

@@ -2,32 +2,24 @@
 -- leads to like states.
 use Rattle.std.proofs.Common.{◌≡◌, ◌∙◌, ℕ, ◌+◌, ◌^◌, ◌<◌, Bool, true, false, List, [], ◌∷◌, ◌++◌, length, nat_lt, if◌then◌else◌, Some, Result, Ok, Err, refl, sym, ap, subst, arith}
 use Rattle.base_bech32.specs.declared.form.Form.{Form}
-use Rattle.base_messages.specs.declared.block.Block.{Block}
-use Rattle.base_messages.specs.declared.faults.BlockFault.{BlockFault}
-use Rattle.base_messages.specs.declared.faults.LineFault.{LineFault}
+use Rattle.base_messages.specs.declared.{block.Block.Block, faults.{BlockFault.BlockFault, LineFault.LineFault}}
 use Rattle.base_messages.specs.declared.report.BlockReport.{BlockReport}
-use Rattle.line_json.specs.Block.{block_of}
-use Rattle.line_json.specs.Written.{text_of_block}
-use Rattle.rule_modules.specs.Chain.{Stakes, State}
-use Rattle.rule_modules.specs.Sound.{IsSound}
-use Rattle.rule_machine.specs.Machine.{Step, step}
+use Rattle.line_json.specs.{Block.block_of, Written.text_of_block}
+use Rattle.rule_modules.specs.{Chain.{Stakes, State}, Sound.IsSound}
+use Rattle.rule_machine.{specs.Machine.{Step, step}, proofs.DueLemmas.is_due}
 use Rattle.rule_machine.specs.Report as machine
-use Rattle.rule_machine.proofs.DueLemmas.{is_due}
 use Rattle.line_report.specs.Lines as report
 use Rattle.store_commits.specs.Held.{rows_at}
 use Rattle.store_items.specs.Stored.{rows_in}
 use Rattle.store_resuming.proofs.BlockLemmas.{StepsAlike, step_alike}
-use Rattle.store_resuming.proofs.DecideLaws.{alike_by_rows, same_items, same_report}
-use Rattle.store_resuming.proofs.MessageLemmas.{StatesAlike}
+use Rattle.store_resuming.proofs.{DecideLaws.{alike_by_rows, same_items, same_report}, MessageLemmas.StatesAlike}
 use Rattle.store_resuming.proofs.SideLemmas.{AreAlike}
-use Rattle.run_app.specs.declared.status.LineStop.{LineStop}
-use Rattle.run_app.specs.declared.status.LineStop.TheVariants as stop
-use Rattle.run_app.specs.Laws.{RowsDecideAnswers}
+use Rattle.run_app.specs.{declared.status.LineStop.LineStop, Laws.RowsDecideAnswers}
 use Rattle.run_app.specs.Machine.{Answer, Standing, answer_within, applied_answer, block_answer, line_answer, longest, not_applied, report_of}
-use Rattle.run_app.specs.Runs.{AreAnswered, before, ran_after, ran_from, ran_report}
-use Rattle.run_app.proofs.OnwardLemmas.{step_sound}
+use Rattle.run_app.{specs.Runs.{AreAnswered, before, ran_after, ran_from, ran_report}, proofs.OnwardLemmas.step_sound}
 use Rattle.run_app.proofs.ReadLemmas.{AllHaveCoins, block_has_coins, height_is_low, its_coins}
 use Rattle.run_app.proofs.SoundLemmas.{next_height}
+use Rattle.run_app.specs.declared.status.LineStop.TheVariants as stop
 
 -- two answers have one text, and lead to like states that are sound
 record AnswersAlike (a b : Answer) : Type 0 where

@@ -1,41 +1,28 @@
 -- Answers of a chain to lines, from the states for which it stands.
 use Rattle.std.proofs.Common.{◌≡◌, ◌∙◌, inl, inr, ℕ, ◌≤◌, false, nat_lt, List, [], ◌++◌, length, Option, Some, None, Result, Ok, Err, OnOk, IfErr, IfSome, refl, sym, ap, subst, arith}
 use Rattle.base_bech32.specs.declared.form.Form.{Form}
-use Rattle.base_io.specs.Outside.{IsPart}
-use Rattle.base_io.specs.Calls.{AddsPart, Stays}
-use Rattle.base_roles.specs.declared.facts.Fact.{Fact}
-use Rattle.base_roles.specs.declared.refusal.Refusal.{Refusal}
+use Rattle.base_io.specs.{Outside.IsPart, Calls.{AddsPart, Stays}, declared.keeper.KeepFault.KeepFault}
+use Rattle.base_roles.specs.declared.{facts.Fact.Fact, refusal.Refusal.Refusal}
 use Rattle.base_coins.specs.Coins.{Money}
-use Rattle.base_messages.specs.declared.block.Block.{Block}
-use Rattle.base_messages.specs.declared.faults.BlockFault.{BlockFault}
+use Rattle.base_messages.specs.declared.{block.Block.Block, faults.{BlockFault.BlockFault, LineFault.LineFault}}
+use Rattle.base_messages.specs.declared.{report.BlockReport.BlockReport, genesis.Genesis.Genesis}
 use Rattle.base_messages.specs.declared.faults.BlockFault.TheVariants as block
-use Rattle.base_messages.specs.declared.faults.LineFault.{LineFault}
 use Rattle.base_messages.specs.declared.faults.LineFault.TheVariants as fault
-use Rattle.base_messages.specs.declared.report.BlockReport.{BlockReport}
-use Rattle.base_messages.specs.declared.genesis.Genesis.{Genesis}
-use Rattle.line_json.specs.Reading.{Fails}
-use Rattle.line_json.specs.Genesis.{genesis_of}
-use Rattle.line_json.specs.Block.{block_of}
-use Rattle.line_json.specs.Written.{text_of_genesis, text_of_block}
+use Rattle.line_json.specs.{Reading.Fails, Genesis.genesis_of, Block.block_of, Written.{text_of_genesis, text_of_block}}
 use Rattle.rule_modules.specs.Chain.{State}
-use Rattle.rule_machine.specs.GenesisConditions.{start_condition}
-use Rattle.rule_machine.specs.GenesisState.{Start}
-use Rattle.rule_machine.specs.Machine.{Step, step}
+use Rattle.rule_machine.specs.{GenesisConditions.start_condition, GenesisState.Start, Machine.{Step, step}}
 use Rattle.chain_modules.specs.Kept.{KeptState, StandsFor}
 use Rattle.chain_blocks.specs.Answers.{Applies}
-use Rattle.chain_whole.specs.Answers.{Starts}
-use Rattle.chain_whole.specs.Chained.{Chained}
+use Rattle.chain_whole.specs.{Answers.Starts, Chained.Chained}
 use Rattle.run_app.specs.declared.status.LineStop.{LineStop}
+use Rattle.run_app.specs.Machine.{Standing, Answer, StandsAt, AnswersTo, longest, not_read, begun, told, started_answer, genesis_answer, not_applied, applied_answer, block_answer, answer_within, line_answer, report_of}
+use Rattle.run_app.specs.Runs.{ran_report, Reported}
+use Rattle.run_app.specs.Parts.{IsFault, NotAnswered, Grows, Took, Finishes, FinishStops, not_kept}
+use Rattle.run_app.proofs.{PartLemmas.untold, RunLemmas.no_growth}
 use Rattle.run_app.specs.declared.status.LineStop.TheVariants as stop
 use Rattle.run_app.specs.declared.status.EndStop.TheVariants as ends
 use Rattle.run_app.specs.declared.status.InputFault.TheVariants as input
-use Rattle.run_app.specs.Machine.{Standing, Answer, StandsAt, AnswersTo, longest, not_read, begun, told, started_answer, genesis_answer, not_applied, applied_answer, block_answer, answer_within, line_answer, report_of}
-use Rattle.run_app.specs.Runs.{ran_report, Reported}
-use Rattle.base_io.specs.declared.keeper.KeepFault.{KeepFault}
 use Rattle.base_io.specs.declared.keeper.KeepFault.TheVariants as keep
-use Rattle.run_app.specs.Parts.{IsFault, NotAnswered, Grows, Took, Finishes, FinishStops, not_kept}
-use Rattle.run_app.proofs.PartLemmas.{untold}
-use Rattle.run_app.proofs.RunLemmas.{no_growth}
 
 -- an answer of this text, after which this state stands
 abbrev answer_of : List ℕ → State → Result Answer LineStop

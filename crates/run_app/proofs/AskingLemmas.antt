@@ -1,28 +1,20 @@
 -- The pending rewards that a question asks for, as a chain tells them.
-use Rattle.std.proofs.Common.{◌≡◌, ◌∙◌, ℕ, Bool, true, false, List, [], ◌++◌, Option, Some, None, Result, Ok, Err, IfOk, Vec, Global, refl, sym, ap, subst}
-use Rattle.std.specs.Prelude.{bytes_eq, All}
-use Rattle.std.specs.List.Sorted.{IsPermutation}
-use Rattle.std.proofs.lemmas.List.{append-nil}
-use Rattle.std.proofs.lemmas.List.Elements.{All-nil, All-weaker}
-use Rattle.std.proofs.lemmas.List.Sorted.{IsPermutation-refl}
+use Rattle.std.proofs.Common.{◌≡◌, ◌∙◌, ℕ, Bool, true, false, List, [], ◌++◌, Option, Some, None, Result, Ok, Err, IfOk, Vec, Global, refl, sym, ap, subst, bytes_eq, All, IsPermutation, append-nil}
+use Rattle.std.proofs.lemmas.List.{Elements.{All-nil, All-weaker}, Sorted.IsPermutation-refl}
 use Rattle.std.proofs.lemmas.Map.Text.{is_eq-slice_cmp}
 use Rattle.base_bech32.specs.declared.form.Form.{Form}
 use Rattle.base_types.specs.declared.account.Account.{Account}
 use Rattle.base_types.specs.declared.account.Account.TheVariants as account
 use Rattle.base_roles.specs.declared.items.Item.{Item}
-use Rattle.chain_whole.specs.declared.fault.ChainFault.{ChainFault}
+use Rattle.chain_whole.specs.{declared.fault.ChainFault.ChainFault, Pending.{is_pending_to, ArePendingTo}}
 use Rattle.base_messages.specs.declared.report.Pending.{Pending}
 use Rattle.rule_modules.specs.Chain.{State}
-use Rattle.rule_machine.specs.Items.{IsInKeyOrder, items_of}
-use Rattle.rule_machine.specs.Report.{pending_of, report_of}
-use Rattle.chain_whole.specs.Pending.{is_pending_to, ArePendingTo}
+use Rattle.rule_machine.specs.{Items.{IsInKeyOrder, items_of}, Report.{pending_of, report_of}}
 use Rattle.line_report.specs.declared.question.Query.{Query}
-use Rattle.line_report.specs.declared.question.Query.TheVariants as query
-use Rattle.line_report.specs.Asking.{answered_by, is_pending_asked, ArePendingOf, StatesAreAsked}
-use Rattle.line_report.specs.Laws.{AreItemsOf}
+use Rattle.line_report.specs.{Asking.{answered_by, is_pending_asked, ArePendingOf, StatesAreAsked}, Laws.AreItemsOf}
 use Rattle.line_report.specs.Queries.{answer_of}
-use Rattle.run_app.specs.declared.status.EndStop.{EndStop}
-use Rattle.run_app.proofs.ReportLemmas.{all_of}
+use Rattle.line_report.specs.declared.question.Query.TheVariants as query
+use Rattle.run_app.{specs.declared.status.EndStop.EndStop, proofs.ReportLemmas.all_of}
 
 -- a delegator's own
 pub own_asked : (p : State) (who : List ℕ) (list : List Pending) → ArePendingTo p who list → ArePendingOf p (query.Rewards (account.User who)) list

@@ -6,30 +6,20 @@ use Rattle.base_coins.specs.Steps.{◌>>=◌}
 use Rattle.base_io.specs.Calls.{Stays}
 use Rattle.base_messages.specs.declared.faults.LineFault.{LineFault}
 use Rattle.base_messages.specs.declared.faults.LineFault.TheVariants as why
-use Rattle.base_roles.specs.Entries.{at, with}
-use Rattle.base_roles.specs.Orders.{same_addr}
+use Rattle.base_roles.specs.{Entries.{at, with}, Orders.same_addr}
 use Rattle.base_types.specs.Orders.{addr_cmp}
-use Rattle.line_ballots.specs.declared.ballot.Ballot.{Ballot}
-use Rattle.line_ballots.specs.Ballots.{ballot_of}
+use Rattle.line_ballots.specs.{declared.ballot.Ballot.Ballot, Ballots.ballot_of}
 use Rattle.line_json.specs.Reading.{Gives}
-use Rattle.mod_tally.specs.declared.choice.Choice.{Choice}
-use Rattle.mod_tally.specs.Ballots.{Cast, chosen_in}
-use Rattle.mod_tally.proofs.Casting.{cast_next}
-use Rattle.run_app.specs.declared.status.Status.{Status}
-use Rattle.run_app.specs.declared.status.Status.TheVariants.{Limit, ReadFault}
-use Rattle.run_app.specs.declared.status.LimitKind.TheVariants.{Line, Input}
-use Rattle.run_app.specs.declared.status.LineStop.{LineStop}
-use Rattle.run_app.specs.declared.status.LineStop.TheVariants as stop
+use Rattle.mod_tally.{specs.{declared.choice.Choice.Choice, Ballots.{Cast, chosen_in}}, proofs.Casting.cast_next}
+use Rattle.run_app.specs.declared.status.Status.{Status, TheVariants.{Limit, ReadFault}}
+use Rattle.run_app.specs.declared.status.{LimitKind.TheVariants.{Line, Input}, LineStop.LineStop}
 use Rattle.run_app.specs.Ballots.{AllAreKept, AreKept, AreTaken, AreUncounted, IsCast, IsNone, IsOfBallots, IsUncounted, Kept, StopsIn, ballot_at, ballot_or_stop, cast_from, cast_in}
-use Rattle.run_app.specs.Ending.{status_of}
-use Rattle.run_app.specs.Lines.{whole_from, rest_from, last_line, lines_from, lines_of}
-use Rattle.run_app.specs.Machine.{longest, not_read}
-use Rattle.run_app.specs.Outcome.{most_bytes}
-use Rattle.run_app.specs.Parts.{HasNoEnd, NotExtended}
-use Rattle.run_app.specs.Told.{Told}
+use Rattle.run_app.specs.{Ending.status_of, Lines.{whole_from, rest_from, last_line, lines_from, lines_of}}
+use Rattle.run_app.specs.{Machine.{longest, not_read}, Outcome.most_bytes, Parts.{HasNoEnd, NotExtended}, Told.Told}
 use Rattle.run_app.proofs.DriveLemmas.{TookBytes, told_all, told_more, told_rest, told_still}
 use Rattle.run_app.proofs.PartLemmas.{last-some, parted}
 use Rattle.run_app.proofs.CutLemmas.{lines-append, rest-append, rest_none, rest_one, whole-append, whole_no_longer, whole_none, whole_one}
+use Rattle.run_app.specs.declared.status.LineStop.TheVariants as stop
 
 -- ---- one line
 

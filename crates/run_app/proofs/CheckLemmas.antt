@@ -6,23 +6,18 @@ use Rattle.base_messages.specs.declared.faults.LineFault.{LineFault}
 use Rattle.base_messages.specs.declared.faults.LineFault.TheVariants as why
 use Rattle.line_json.specs.Reading.{Gives}
 use Rattle.line_statements.specs.Statements.{statement_of, text_of_answer}
-use Rattle.mod_statement.specs.declared.fault.StatementFault.{StatementFault}
+use Rattle.mod_statement.specs.declared.{fault.StatementFault.StatementFault, statement.Statement.Statement}
+use Rattle.mod_statement.specs.{Answers.{IsAnswer, IsFaultOf}, Bounds.bounds_of}
 use Rattle.mod_statement.specs.declared.fault.StatementFault.TheVariants as fault
-use Rattle.mod_statement.specs.declared.statement.Statement.{Statement}
-use Rattle.mod_statement.specs.Answers.{IsAnswer, IsFaultOf}
-use Rattle.mod_statement.specs.Bounds.{bounds_of}
 use Rattle.run_app.specs.declared.status.Status.{Status}
 use Rattle.run_app.specs.declared.status.Status.TheVariants.{Done, Usage, BadInput, Limit, ReadFault, WriteFault, KeepFault, NoMemory, BadStore, WrongStore, NotFound, NoPast}
 use Rattle.run_app.specs.declared.status.LimitKind.TheVariants.{Line, Input, Ratio, Bound}
 use Rattle.run_app.specs.Checks.{AreChecked, CheckEnds, ChecksAll, ChecksCalmly, ChecksSo, CutsCheck, HaltsCheck, IsChecked, IsUnanswered, StopsCheck, TakesCheck, WritesPart, fault_at, fault_of, fault_of_bounds, not_bounded}
-use Rattle.run_app.specs.Ending.{status_of}
-use Rattle.run_app.specs.Lines.{whole_from, lines_of}
-use Rattle.run_app.specs.Machine.{longest, not_read}
+use Rattle.run_app.specs.{Ending.status_of, Lines.{whole_from, lines_of}, Machine.{longest, not_read}}
 use Rattle.run_app.specs.Outcome.{AreEnded, most_bytes}
 use Rattle.run_app.specs.Taking.{Halts, IsUntaken, Leads, MayEnd, MayStop, MeetsLong, Pauses, TakesAll, TakesPart}
+use Rattle.run_app.proofs.{DriveLemmas.{told_first, told_rest}, StopLemmas.ended_first}
 use Rattle.run_generated.specs.Writing.{Grows}
-use Rattle.run_app.proofs.DriveLemmas.{told_first, told_rest}
-use Rattle.run_app.proofs.StopLemmas.{ended_first}
 
 -- ---- one line
 

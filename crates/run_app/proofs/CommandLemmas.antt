@@ -1,31 +1,22 @@
 -- How a run of each command ends.
 use Rattle.std.proofs.Common.{◌≡◌, ◌⊎◌, inl, inr, sym, subst, refl, ℕ, Bool, false, List, Option, Some, None}
 use Rattle.base_bech32.specs.declared.form.Form.{Form}
-use Rattle.base_io.specs.Outside.{Rose}
-use Rattle.base_io.specs.Rows.{Pair}
+use Rattle.base_io.specs.{Outside.Rose, Rows.Pair}
 use Rattle.run_generated.specs.Writing.{generated_text}
 use Rattle.run_trial.specs.Trial.{trial_of}
-use Rattle.run_words.specs.declared.fault.WordsFault.{WordsFault}
-use Rattle.run_words.specs.declared.fault.WordsFault.TheVariants as words
-use Rattle.run_words.specs.declared.mode.Command.{Command}
-use Rattle.run_words.specs.declared.mode.Mode.{Mode}
+use Rattle.run_words.specs.declared.{fault.WordsFault.WordsFault, mode.{Command.Command, Mode.Mode}}
 use Rattle.run_words.specs.declared.mode.Mode.TheVariants.{Replay, Resume, Query, Tally, Check, Gen, Trial}
+use Rattle.run_words.specs.declared.fault.WordsFault.TheVariants as words
 use Rattle.run_app.specs.declared.status.Status.{Status}
 use Rattle.run_app.specs.declared.status.Status.TheVariants.{Done, Usage, BadInput, Limit, ReadFault, WriteFault, KeepFault, NoMemory, BadStore, WrongStore, NotFound, NoPast}
-use Rattle.run_app.specs.declared.performing.Way.{Way}
-use Rattle.run_app.specs.declared.performing.Way.TheVariants.{Plain, Kept, Past}
+use Rattle.run_app.specs.declared.performing.Way.{Way, TheVariants.{Plain, Kept, Past}}
 use Rattle.run_app.specs.Commands.{CommandEnds, CommandUnkept, IsUntroubledBy, WayEnds, WayUnkept, way_of}
 use Rattle.run_app.specs.Counts.{IsOfWords, Moved, is_keep_fault, is_read_fault, is_write_fault}
-use Rattle.run_app.specs.Ending.{status_of_words}
-use Rattle.run_app.specs.Kept.{AreSome}
-use Rattle.run_app.specs.Modes.{IsTried, IsUntroubledAt, ModeEnds}
-use Rattle.run_app.specs.Unkept.{ModeUnkept}
-use Rattle.run_app.specs.Writes.{IsWritten}
-use Rattle.run_app.proofs.CheckLemmas.{check_unbegun, untroubled_check}
+use Rattle.run_app.specs.{Ending.status_of_words, Kept.AreSome, Modes.{IsTried, IsUntroubledAt, ModeEnds}}
+use Rattle.run_app.{specs.{Unkept.ModeUnkept, Writes.IsWritten}, proofs.CheckLemmas.{check_unbegun, untroubled_check}}
 use Rattle.run_app.proofs.DriveLemmas.{untroubled_run}
 use Rattle.run_app.proofs.ModeLemmas.{finds_none, nothing, nothing_done, rows_left, same_rows, tried_without_memory, unbegun_replay, untouched, written_to_end}
-use Rattle.run_app.proofs.ResumeLemmas.{untroubled_query, untroubled_resume}
-use Rattle.run_app.proofs.TallyLemmas.{untroubled_tally}
+use Rattle.run_app.proofs.{ResumeLemmas.{untroubled_query, untroubled_resume}, TallyLemmas.untroubled_tally}
 
 -- before anything is taken, a run may end where memory is wanting, and leaves all as it was
 mode_unbegun : (form : Form) (m : Mode) (left w : Option (List ℕ)) (rows : Option (List Pair)) (honest : Type 0) (leaves : List Pair → Type 0) → ModeEnds form m left left w w rows rows honest leaves leaves NoMemory

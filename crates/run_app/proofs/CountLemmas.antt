@@ -3,8 +3,7 @@ use Rattle.std.proofs.Common.{◌≡◌, ℕ, refl}
 use Rattle.base_io.specs.Outside.{Rose}
 use Rattle.run_app.specs.declared.status.Status.{Status}
 use Rattle.run_app.specs.declared.status.Status.TheVariants.{Done, Usage, BadInput, Limit, ReadFault, WriteFault, KeepFault, NoMemory, BadStore, WrongStore, NotFound, NoPast}
-use Rattle.run_app.specs.Counts.{Moved, is_keep_fault, is_read_fault, is_write_fault}
-use Rattle.run_app.specs.Kept.{UnlessKeepFault}
+use Rattle.run_app.specs.{Counts.{Moved, is_keep_fault, is_read_fault, is_write_fault}, Kept.UnlessKeepFault}
 use Rattle.run_app.specs.Outcome.{UnlessReadFault, UnlessWriteFault}
 
 pub moved_read : (s : Status) (before now : ℕ) → (s ≡ ReadFault → Rose before now) → UnlessReadFault s (now ≡ before) → Moved (is_read_fault s) before now

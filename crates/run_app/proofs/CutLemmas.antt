@@ -1,8 +1,6 @@
 -- How lines are cut from bytes that come piece by piece.
-use Rattle.std.proofs.Common.{◌≡◌, ◌∙◌, ℕ, zero, suc, ◌<◌, ◌≤◌, Bool, true, false, List, [], ◌∷◌, ◌++◌, length, refl, sym, ap, append_assoc, arith, take, cond, ◌==◌, slice_index}
-use Rattle.std.proofs.lemmas.List.{append-nil}
-use Rattle.run_app.specs.Lines.{whole_from, rest_from, lines_from}
-use Rattle.run_app.specs.Parts.{HasNoEnd}
+use Rattle.std.proofs.Common.{◌≡◌, ◌∙◌, ℕ, zero, suc, ◌<◌, ◌≤◌, Bool, true, false, List, [], ◌∷◌, ◌++◌, length, refl, sym, ap, append_assoc, arith, take, cond, ◌==◌, slice_index, append-nil}
+use Rattle.run_app.specs.{Lines.{whole_from, rest_from, lines_from}, Parts.HasNoEnd}
 
 whole_step : (test : Bool) (line a more : List ℕ) (b : ℕ) → (whole_from [] (a ++ more) ≡ whole_from [] a ++ whole_from (rest_from [] a) more)
     → (whole_from (line ++ b ∷ []) (a ++ more) ≡ whole_from (line ++ b ∷ []) a ++ whole_from (rest_from (line ++ b ∷ []) a) more)

@@ -1,26 +1,21 @@
 -- Where a run stands, and how it ends.
-use Rattle.std.proofs.Common.{◌⊎◌, inl, inr, ◌≡◌, ◌≢◌, ◌∙◌, ℕ, ◌+◌, ◌<◌, ◌≤◌, List, [], ◌∷◌, ◌++◌, length, Option, Some, None, Result, Err, IfSome, refl, sym, ap, subst, append_assoc, arith, take, drop, length-append, ne_eqb, slice_index_or}
-use Rattle.std.specs.Prelude.{⊤, false}
-use Rattle.std.proofs.lemmas.List.{append-nil, take-append-drop, length-take-le}
+use Rattle.std.proofs.Common.{◌⊎◌, inl, inr, ◌≡◌, ◌≢◌, ◌∙◌, ℕ, ◌+◌, ◌<◌, ◌≤◌, List, [], ◌∷◌, ◌++◌, length, Option, Some, None, Result, Err, IfSome, refl, sym, ap, subst, append_assoc, arith, take, drop, length-append, ne_eqb, slice_index_or, false, append-nil, take-append-drop, length-take-le}
+use Rattle.std.specs.Prelude.{⊤}
 use Rattle.base_bech32.specs.declared.form.Form.{Form}
 use Rattle.base_io.specs.Calls.{Takes, Stays}
 use Rattle.run_app.specs.declared.status.Status.{Status}
 use Rattle.run_app.specs.declared.status.Status.TheVariants.{Done, Usage, BadInput, Limit, ReadFault, WriteFault, KeepFault, NoMemory, BadStore, WrongStore, NotFound, NoPast}
-use Rattle.run_app.specs.declared.status.LimitKind.TheVariants.{Line, Input, Ratio, Bound}
-use Rattle.run_app.specs.declared.status.LineStop.{LineStop}
-use Rattle.run_app.specs.declared.status.LineStop.TheVariants as stops
+use Rattle.run_app.specs.declared.status.{LimitKind.TheVariants.{Line, Input, Ratio, Bound}, LineStop.LineStop}
 use Rattle.run_app.specs.declared.status.EndStop.{EndStop}
-use Rattle.run_app.specs.declared.status.EndStop.TheVariants as ends
-use Rattle.run_app.specs.Lines.{whole_from, rest_from, last_line, lines_from, lines_of}
-use Rattle.run_app.specs.Machine.{Standing, longest}
+use Rattle.run_app.specs.{Lines.{whole_from, rest_from, last_line, lines_from, lines_of}, Machine.{Standing, longest}}
 use Rattle.run_app.specs.Runs.{Ran, before, ran_from, AreAnswered, Named, Reported, Lacking, Finished}
 use Rattle.run_app.specs.Outcome.{Ends, HasBegun, RunEnds, answer_from, most_bytes, AreEnded, IsUntroubled}
 use Rattle.run_app.specs.Parts.{Stands, Fed, Finishes, FinishAs, FinishEnds, FinishStops, FinishStatus, status_at_end, PartEnds, PartStops, lines_after, LongOnly, EndLongOnly, WhereWriteAtEnd}
-use Rattle.run_app.specs.Ending.{status_of}
-use Rattle.run_app.specs.Told.{TakesFrom, Told}
-use Rattle.run_app.proofs.CutLemmas.{whole-append, lines-append}
+use Rattle.run_app.{specs.{Ending.status_of, Told.{TakesFrom, Told}}, proofs.CutLemmas.{whole-append, lines-append}}
 use Rattle.run_app.proofs.RunLemmas.{fed-append, grows_on, no_growth, stops_along, named_along, wrote_along, unkept_along, held_along, ran-append, answered-append}
 use Rattle.run_app.proofs.PartLemmas.{too_long, none_fed}
+use Rattle.run_app.specs.declared.status.LineStop.TheVariants as stops
+use Rattle.run_app.specs.declared.status.EndStop.TheVariants as ends
 
 abbrev pub TookBytes : ℕ → List ℕ → Option (List ℕ) → Option (List ℕ) → Type 0
 TookBytes m piece left left' = IfSome left (λ bytes. Takes m bytes piece left')

@@ -1,24 +1,18 @@
 -- What a keeper holds from line to line.
-use Rattle.std.proofs.Common.{◌≡◌, ◌∙◌, ◌⊎◌, inl, inr, true, false, true≢false, ℕ, List, [], Option, Some, None, Result, Ok, Err, IfSome, refl, sym, ap, subst, arith}
-use Rattle.std.specs.Prelude.{IsSome, ⊤}
+use Rattle.std.proofs.Common.{◌≡◌, ◌∙◌, ◌⊎◌, inl, inr, true, false, true≢false, ℕ, List, [], Option, Some, None, Result, Ok, Err, IfSome, refl, sym, ap, subst, arith, IsSome}
+use Rattle.std.specs.Prelude.{⊤}
 use Rattle.chain_whole.specs.Chained.{Chained}
-use Rattle.base_io.specs.declared.keeper.KeepFault.{KeepFault}
-use Rattle.base_io.specs.Rows.{Makes, Pair}
-use Rattle.base_io.specs.Changes.{LeavesRows}
+use Rattle.base_io.specs.{declared.keeper.KeepFault.KeepFault, Rows.{Makes, Pair}, Changes.LeavesRows}
 use Rattle.base_roles.specs.declared.items.Item.{Item}
-use Rattle.store_commits.specs.Held.{items_at, rows_at}
-use Rattle.store_commits.specs.Commits.{Commits, Holds}
+use Rattle.store_commits.{specs.{Held.{items_at, rows_at}, Commits.{Commits, Holds}}, proofs.Committing.none_stored}
 use Rattle.rule_machine.specs.Items.{items_of}
 use Rattle.chain_modules.specs.Kept.{StandsFor}
 use Rattle.rule_modules.specs.Chain.{State}
 use Rattle.store_items.specs.Stored.{AreStored, rows_in}
-use Rattle.store_commits.proofs.Committing.{none_stored}
-use Rattle.run_app.specs.declared.status.LineStop.{LineStop}
-use Rattle.run_app.specs.Machine.{Answer, AnswersTo, IsSettled, Standing, StandsAt}
-use Rattle.store_rows.specs.Formats.{written}
+use Rattle.run_app.specs.{declared.status.LineStop.LineStop, Machine.{Answer, AnswersTo, IsSettled, Standing, StandsAt}}
 use Rattle.run_app.specs.Kept.{AreRowsOf, Began, BeganOnRows, IsLater, Keeping, LeftIn, on_none}
-use Rattle.run_app.specs.Parts.{IsFault, NotAnswered, not_kept}
-use Rattle.run_app.proofs.AnswerLemmas.{faulted, unkept}
+use Rattle.run_app.{specs.Parts.{IsFault, NotAnswered, not_kept}, proofs.AnswerLemmas.{faulted, unkept}}
+use Rattle.store_rows.specs.Formats.{written}
 
 -- ---- a keeper after calls
 

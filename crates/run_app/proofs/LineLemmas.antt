@@ -3,18 +3,15 @@ use Rattle.std.proofs.Common.{◌≡◌, ℕ, List, Option, Some, None, Result, 
 use Rattle.base_bech32.specs.declared.form.Form.{Form}
 use Rattle.base_io.specs.declared.keeper.KeepFault.{KeepFault}
 use Rattle.base_io.specs.declared.keeper.KeepFault.TheVariants as keep
-use Rattle.base_messages.specs.declared.faults.BlockFault.{BlockFault}
+use Rattle.base_messages.specs.declared.{faults.{BlockFault.BlockFault, LineFault.LineFault}, genesis.Genesis.Genesis}
 use Rattle.base_messages.specs.declared.faults.BlockFault.TheVariants as block
-use Rattle.base_messages.specs.declared.faults.LineFault.{LineFault}
 use Rattle.base_messages.specs.declared.faults.LineFault.TheVariants as fault
-use Rattle.base_messages.specs.declared.genesis.Genesis.{Genesis}
 use Rattle.line_json.specs.Genesis.{genesis_of}
 use Rattle.rule_machine.specs.GenesisConditions.{start_condition}
-use Rattle.run_app.specs.declared.status.LineStop.{LineStop}
-use Rattle.run_app.specs.declared.status.LineStop.TheVariants as stop
-use Rattle.run_app.specs.LineStops.{IsOfLine}
+use Rattle.run_app.specs.{declared.status.LineStop.LineStop, LineStops.IsOfLine}
 use Rattle.run_app.specs.Machine.{Answer, Standing, genesis_answer, not_read, not_applied, started_answer}
 use Rattle.run_app.specs.Parts.{IsFault, LongOnly, NotAnswered, not_kept}
+use Rattle.run_app.specs.declared.status.LineStop.TheVariants as stop
 
 pub not_read_stops : (n : ℕ) (why : LineFault) (line : List ℕ) → IsOfLine (not_read n why) line
 not_read_stops n fault.NotJson line = tt

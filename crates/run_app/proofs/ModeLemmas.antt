@@ -1,34 +1,25 @@
 -- How a run of each command ends.
-use Rattle.std.proofs.Common.{◌≡◌, ◌∙◌, ◌⊎◌, inl, inr, ap, sym, subst, refl, arith, ℕ, ◌≤◌, ◌&&◌, nat_le, Bool, true, false, true≢false, List, [], ◌∷◌, ◌++◌, append-nil, bytes_eq, codes, Option, Some, None, Result, Ok, Err, if◌then◌else◌}
-use Rattle.std.specs.Prelude.{IsErrOf, IsSome, OnErr, OnOk, option_and_then, option_map, ⊤}
-use Rattle.base_io.specs.declared.outside.SinkFault.{SinkFault}
+use Rattle.std.proofs.Common.{◌≡◌, ◌∙◌, ◌⊎◌, inl, inr, ap, sym, subst, refl, arith, ℕ, ◌≤◌, ◌&&◌, nat_le, Bool, true, false, true≢false, List, [], ◌∷◌, ◌++◌, append-nil, bytes_eq, codes, Option, Some, None, Result, Ok, Err, if◌then◌else◌, IsErrOf, IsSome, OnErr, OnOk, option_and_then, option_map}
+use Rattle.std.specs.Prelude.{⊤}
+use Rattle.base_io.specs.{declared.outside.SinkFault.SinkFault, Faults.UnlessFailed, Rows.{Makes, Pair}}
 use Rattle.base_io.specs.declared.outside.SinkFault.TheVariants as sink
-use Rattle.base_io.specs.Faults.{UnlessFailed}
 use Rattle.base_roles.specs.declared.refusal.Refusal.{Refusal}
 use Rattle.base_messages.specs.declared.faults.BlockFault.{BlockFault}
 use Rattle.base_messages.specs.declared.faults.BlockFault.TheVariants as why
 use Rattle.base_decimals.specs.Texts.{number_of}
 use Rattle.run_generated.specs.Writing.{Grows, GrowsInPart, IsFront}
-use Rattle.run_trial.specs.Summary.{Stopped}
-use Rattle.run_trial.specs.declared.fault.TrialFault.{TrialFault}
+use Rattle.run_trial.specs.{Summary.Stopped, declared.fault.TrialFault.TrialFault, Trying.IsTrialFault}
 use Rattle.run_trial.specs.declared.fault.TrialFault.TheVariants as trial
-use Rattle.run_trial.specs.Trying.{IsTrialFault}
-use Rattle.base_bech32.specs.declared.form.Form.{Form}
-use Rattle.base_bech32.specs.declared.form.Form.TheVariants.{Hex, Bech32}
-use Rattle.run_words.specs.declared.mode.Command.{Command}
-use Rattle.run_words.specs.declared.mode.Mode.{Mode}
+use Rattle.base_bech32.specs.declared.form.Form.{Form, TheVariants.{Hex, Bech32}}
+use Rattle.run_words.specs.declared.mode.{Command.Command, Mode.Mode}
 use Rattle.run_words.specs.declared.mode.Mode.TheVariants.{Replay, Resume, Query, Tally, Check, Gen, Trial}
-use Rattle.line_report.specs.declared.question.Query.{Query as Question}
 use Rattle.run_words.specs.Questions.{address_asked, kind_asked}
 use Rattle.run_words.specs.Words.{alone, asking, at_height, begins_with_zero, behind_form, command_of, committing, count_of, generating, height_of, is_bech32, is_keep, is_past, keeping, kept_mode, mode_of, past_of, plain, seed_of, with_input, with_word, with_words}
+use Rattle.line_report.specs.declared.question.Query.{Query as Question}
 use Rattle.run_app.specs.declared.status.Status.{Status}
 use Rattle.run_app.specs.declared.status.Status.TheVariants.{Done, Usage, BadInput, Limit, ReadFault, WriteFault, KeepFault, NoMemory, BadStore, WrongStore, NotFound, NoPast}
-use Rattle.run_app.specs.Machine.{not_applied}
-use Rattle.base_io.specs.Rows.{Makes, Pair}
-use Rattle.run_app.specs.Kept.{AreLeft, AreSome, AreUntouched, IsUnbegun, UnlessKeepFault}
-use Rattle.run_app.specs.Modes.{HasFewBlocks, Tries}
-use Rattle.run_app.specs.Outcome.{UnlessReadFault, UnlessWriteFault}
-use Rattle.run_app.specs.Ending.{status_of}
+use Rattle.run_app.specs.{Machine.not_applied, Kept.{AreLeft, AreSome, AreUntouched, IsUnbegun, UnlessKeepFault}}
+use Rattle.run_app.specs.{Modes.{HasFewBlocks, Tries}, Outcome.{UnlessReadFault, UnlessWriteFault}, Ending.status_of}
 use Rattle.run_app.specs.Writes.{Adds, IsWritten, Leaves, Writes, status_of_sink}
 
 -- ---- a text that is written

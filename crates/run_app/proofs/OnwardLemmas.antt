@@ -1,28 +1,17 @@
 -- Wherever lines lead, a run may go on.
-use Rattle.std.proofs.Common.{◌≡◌, ℕ, ◌+◌, ◌<◌, ◌^◌, All, List, [], ◌∷◌, Option, Some, None, Result, Ok, Err, IfOk, refl, sym, subst, arith}
-use Rattle.std.specs.Prelude.{Contains}
+use Rattle.std.proofs.Common.{◌≡◌, ℕ, ◌+◌, ◌<◌, ◌^◌, All, List, [], ◌∷◌, Option, Some, None, Result, Ok, Err, IfOk, refl, sym, subst, arith, Contains}
 use Rattle.base_bech32.specs.declared.form.Form.{Form}
-use Rattle.line_json.specs.Block.{block_of}
-use Rattle.line_json.specs.Genesis.{genesis_of}
+use Rattle.line_json.specs.{Block.block_of, Genesis.genesis_of}
 use Rattle.base_roles.specs.declared.refusal.Refusal.TheVariants.{Overflow}
 use Rattle.rule_machine.specs.GenesisState.{Start, chain_started, empty_over, ground_at_start, stake_added, without_facts}
 use Rattle.rule_machine.specs.Machine.{Step, block_checked, step, txs_applied}
-use Rattle.base_messages.specs.declared.block.Block.{Block}
-use Rattle.base_messages.specs.declared.faults.BlockFault.TheVariants.{RatioLimit}
+use Rattle.base_messages.specs.declared.{block.Block.Block, faults.BlockFault.TheVariants.RatioLimit}
 use Rattle.base_messages.specs.declared.genesis.Genesis.{Genesis}
-use Rattle.rule_modules.specs.BondedSet.{set_updated}
-use Rattle.rule_modules.specs.Chain.{State, begin_block, chain_told, end_block, staked_in}
-use Rattle.rule_modules.specs.Laws.{next_block}
-use Rattle.rule_modules.specs.Sound.{IsSound}
-use Rattle.rule_modules.proofs.GoingLemmas.{on_lifted, on_next}
-use Rattle.law_soundness.proofs.Burns.{total_in}
-use Rattle.law_soundness.proofs.Points.{from_fits, to_fits}
-use Rattle.law_soundness.proofs.Running.{StepFits, block_fits}
-use Rattle.law_soundness.proofs.Starting.{geneses_start_sound}
-use Rattle.law_soundness.proofs.Steps.{from_if, on_then}
-use Rattle.run_app.specs.Laws.{MayGoOn, RunsMayGoOn}
-use Rattle.run_app.specs.Machine.{Standing}
-use Rattle.run_app.specs.Runs.{AreAnswered}
+use Rattle.rule_modules.specs.{BondedSet.set_updated, Chain.{State, begin_block, chain_told, end_block, staked_in}}
+use Rattle.rule_modules.{specs.{Laws.next_block, Sound.IsSound}, proofs.GoingLemmas.{on_lifted, on_next}}
+use Rattle.law_soundness.proofs.{Burns.total_in, Points.{from_fits, to_fits}, Running.{StepFits, block_fits}}
+use Rattle.law_soundness.proofs.{Starting.geneses_start_sound, Steps.{from_if, on_then}}
+use Rattle.run_app.specs.{Laws.{MayGoOn, RunsMayGoOn}, Machine.Standing, Runs.AreAnswered}
 use Rattle.run_app.proofs.ReadLemmas.{AllHaveCoins, block_has_coins, height_is_low, its_coins}
 use Rattle.run_app.proofs.SoundLemmas.{Begun, Led, block_led, genesis_led, next_height, within}
 

@@ -1,22 +1,15 @@
 -- Runs that were to keep a history, and do not begin.
-use Rattle.std.proofs.Common.{◌≡◌, inl, inr, ℕ, List, Option, IfSome, Result, Err, refl, subst}
-use Rattle.std.specs.Prelude.{IsErrOf, IsSome}
+use Rattle.std.proofs.Common.{◌≡◌, inl, inr, ℕ, List, Option, IfSome, Result, Err, refl, subst, IsErrOf, IsSome}
 use Rattle.base_bech32.specs.declared.form.Form.{Form}
 use Rattle.base_io.specs.Rows.{Pair}
-use Rattle.run_words.specs.declared.mode.Mode.{Mode}
-use Rattle.run_words.specs.declared.mode.Mode.TheVariants.{Replay, Resume, Query, Tally, Check, Gen, Trial}
-use Rattle.store_history.specs.declared.history.History.{History}
-use Rattle.store_history.specs.declared.loading.OpenFault.{OpenFault}
-use Rattle.store_history.specs.declared.loading.OpenFault.TheVariants as unopened
-use Rattle.store_history.specs.History.{IsHistory}
+use Rattle.run_words.specs.declared.mode.Mode.{Mode, TheVariants.{Replay, Resume, Query, Tally, Check, Gen, Trial}}
+use Rattle.store_history.specs.{declared.{history.History.History, loading.OpenFault.OpenFault}, History.IsHistory}
 use Rattle.store_history.specs.Opened.{OnLoaded, UnlessFailed}
+use Rattle.store_history.specs.declared.loading.OpenFault.TheVariants as unopened
 use Rattle.run_app.specs.declared.status.Status.{Status}
 use Rattle.run_app.specs.declared.status.Status.TheVariants.{Done, Usage, ReadFault, WriteFault, KeepFault, BadStore}
-use Rattle.run_app.specs.Histories.{IsCommitting, IsUnopened, status_of_open}
-use Rattle.run_app.specs.Kept.{UnlessKeepFault}
-use Rattle.run_app.specs.Modes.{ModeEnds}
-use Rattle.run_app.specs.Unkept.{ModeUnkept}
-use Rattle.run_app.proofs.ModeLemmas.{nothing_done}
+use Rattle.run_app.specs.{Histories.{IsCommitting, IsUnopened, status_of_open}, Kept.UnlessKeepFault, Modes.ModeEnds}
+use Rattle.run_app.{specs.Unkept.ModeUnkept, proofs.ModeLemmas.nothing_done}
 
 -- how a history was not read
 abbrev unread : OpenFault → Result History OpenFault

@@ -1,22 +1,18 @@
 -- One line, one end of a line, one piece of the input, and the end of the input.
-use Rattle.std.proofs.Common.{inl, inr, ◌≡◌, ◌∙◌, ℕ, ◌+◌, ◌<◌, ◌≤◌, Bool, true, false, ◌==◌, cond, nat_lt, lt-ltb, List, [], ◌∷◌, ◌++◌, length, take, drop, slice_index, Option, Some, None, Result, Ok, Err, OnOk, IfErr, IfSome, IfNone, refl, sym, ap, subst, append_assoc, arith, add-zero, length-append}
+use Rattle.std.proofs.Common.{inl, inr, ◌≡◌, ◌∙◌, ℕ, ◌+◌, ◌<◌, ◌≤◌, Bool, true, false, ◌==◌, cond, nat_lt, lt-ltb, List, [], ◌∷◌, ◌++◌, length, take, drop, slice_index, Option, Some, None, Result, Ok, Err, OnOk, IfErr, IfSome, IfNone, refl, sym, ap, subst, append_assoc, arith, add-zero, length-append, append-nil, take-append-drop}
 use Rattle.std.specs.Prelude.{⊤}
-use Rattle.std.proofs.lemmas.List.{append-nil, take-append-drop}
 use Rattle.memchr.specs.Find.{IsFirstByte, is_byte}
 use Rattle.base_bech32.specs.declared.form.Form.{Form}
-use Rattle.base_io.specs.Outside.{IsPart, Rose}
-use Rattle.base_io.specs.Calls.{AddsPart}
+use Rattle.base_io.specs.{Outside.{IsPart, Rose}, Calls.AddsPart}
 use Rattle.line_json.specs.Genesis.{genesis_of}
-use Rattle.run_app.specs.declared.status.LineStop.{LineStop}
-use Rattle.run_app.specs.declared.status.LineStop.TheVariants.{BadInput, Long, Ratio, Write, Keep, NoMemory}
-use Rattle.run_app.specs.declared.status.EndStop.{EndStop}
-use Rattle.run_app.specs.declared.status.EndStop.TheVariants as ends
-use Rattle.run_app.specs.Lines.{whole_from, rest_from, last_line, lines_from}
+use Rattle.run_app.specs.declared.status.LineStop.{LineStop, TheVariants.{BadInput, Long, Ratio, Write, Keep, NoMemory}}
+use Rattle.run_app.specs.{declared.status.EndStop.EndStop, Lines.{whole_from, rest_from, last_line, lines_from}}
 use Rattle.run_app.specs.Machine.{Standing, Answer, longest, line_answer, genesis_answer}
 use Rattle.run_app.specs.Runs.{before, ran_from, AreAnswered, Named, Wrote, Unkept, Held, Reported, Finished}
 use Rattle.run_app.specs.Parts.{PartEnds, PartStops, Fed, Grows, Took, HasNoEnd, NotAnswered, NotExtended, lines_after, FinishEnds, FinishStops, Finishes, IsOfReport, WhereWriteAtEnd}
 use Rattle.run_app.proofs.CutLemmas.{whole_none, rest_none, whole_one, rest_one, no_end_before, lines-append}
 use Rattle.run_app.proofs.RunLemmas.{ran-append, answered-append, stops_along, fed-append, fed_stops, fed_number, grows_on, no_growth}
+use Rattle.run_app.specs.declared.status.EndStop.TheVariants as ends
 
 -- ---- the first end of a line
 

@@ -1,29 +1,23 @@
 -- Questions of a past height: what is answered, and when none is.
-use Rattle.std.proofs.Common.{◌≡◌, ◌≢◌, ◌∙◌, ◌⊎◌, inl, inr, true≢false, ℕ, ◌<◌, true, List, [], Option, Some, None, IfSome, Err, refl, sym, ap, subst, arith}
-use Rattle.std.specs.Prelude.{IsSome}
+use Rattle.std.proofs.Common.{◌≡◌, ◌≢◌, ◌∙◌, ◌⊎◌, inl, inr, true≢false, ℕ, ◌<◌, true, List, [], Option, Some, None, IfSome, Err, refl, sym, ap, subst, arith, IsSome}
 use Rattle.base_bech32.specs.declared.form.Form.{Form}
-use Rattle.base_io.specs.Changes.{Rises}
-use Rattle.base_io.specs.Rows.{Makes, Pair}
+use Rattle.base_io.specs.{Changes.Rises, Rows.{Makes, Pair}}
 use Rattle.chain_modules.specs.Kept.{StandsFor}
 use Rattle.chain_whole.specs.Chained.{Chained}
-use Rattle.line_report.specs.declared.question.Query.{Query}
-use Rattle.line_report.specs.Asking.{answered_by}
+use Rattle.line_report.specs.{declared.question.Query.Query, Asking.answered_by}
 use Rattle.rule_machine.specs.Report.{report_of}
 use Rattle.rule_modules.specs.Chain.{State}
-use Rattle.store_history.specs.declared.going_back.PastFault.{PastFault}
+use Rattle.store_history.specs.{declared.going_back.PastFault.PastFault, Answers.{IsOutside, IsWithin, Tells}}
+use Rattle.store_history.{specs.History.{ArePast, IsHistory, base_of, last_of}, proofs.PastLemmas.is_one}
 use Rattle.store_history.specs.declared.going_back.PastFault.TheVariants as past
-use Rattle.store_history.specs.Answers.{IsOutside, IsWithin, Tells}
-use Rattle.store_history.specs.History.{ArePast, IsHistory, base_of, last_of}
-use Rattle.store_history.proofs.PastLemmas.{is_one}
 use Rattle.store_resuming.specs.declared.fault.RestoreFault.{RestoreFault}
-use Rattle.store_resuming.specs.declared.fault.RestoreFault.TheVariants as fault
 use Rattle.store_resuming.specs.Restored.{AreLoaded, AreOfNone, AreStateRows, HaveSameRows}
 use Rattle.store_resuming.specs.Restoring.{InOrder, IsChainOf, IsNoChain, IsUnrestored}
+use Rattle.store_resuming.specs.declared.fault.RestoreFault.TheVariants as fault
 use Rattle.run_app.specs.declared.status.Status.{Status}
 use Rattle.run_app.specs.declared.status.Status.TheVariants.{Done, Usage, BadInput, Limit, ReadFault, WriteFault, KeepFault, NoMemory, BadStore, WrongStore, NotFound, NoPast}
 use Rattle.run_app.specs.Histories.{AreBadAt, AreRowsAt, AskedAt, FitsPast, IsRefusedAt, IsUnasked, PastAnswers, PastEnds, TellPast, status_of_past}
-use Rattle.run_app.specs.Resumes.{Answers, IsAnswered, status_of_restore}
-use Rattle.run_app.specs.Writes.{Adds}
+use Rattle.run_app.specs.{Resumes.{Answers, IsAnswered, status_of_restore}, Writes.Adds}
 use Rattle.run_app.proofs.ModeLemmas.{written_to_end}
 
 -- ---- the past rows of a list

@@ -1,41 +1,25 @@
 -- What is read: the coins of a block's transactions are lists of coins.
 use Rattle.std.proofs.Common.{◌≡◌, ℕ, ◌^◌, ◌<◌, ◌≤◌, Bool, true, false, cond, List, [], ◌∷◌, ◌++◌, map, All, length, Option, Some, None, Result, Ok, Err, refl, subst, arith, rules, codes}
-use Rattle.std.specs.List.{AllByRecursion, list_all}
-use Rattle.std.specs.Char.{is_ascii_digit}
-use Rattle.std.specs.Str.Parse.{digits_value}
-use Rattle.std.proofs.lemmas.Int.Digits.{digits_value-lt}
-use Rattle.std.proofs.lemmas.List.Elements.{All-from_recursion}
-use Rattle.std.proofs.Math.Nat.{pow-le-pow_right}
-use Rattle.serde_json.specs.Data.{Data, Items, no_items, item}
-use Rattle.serde_json.specs.Find.{as_array}
+use Rattle.std.specs.{List.{AllByRecursion, list_all}, Char.is_ascii_digit, Str.Parse.digits_value}
+use Rattle.std.proofs.{lemmas.{Int.Digits.digits_value-lt, List.Elements.All-from_recursion}, Math.Nat.pow-le-pow_right}
+use Rattle.serde_json.specs.{Data.{Data, Items, no_items, item}, Find.as_array}
 use Rattle.base_bech32.specs.declared.form.Form.{Form}
 use Rattle.base_decimals.specs.Texts as texts
 use Rattle.base_decimals.proofs.Digits.{all_digits, number_short}
 use Rattle.base_types.specs.declared.account.Account.{Account}
-use Rattle.base_coins.specs.declared.coin.Coin.{Coin}
-use Rattle.base_coins.specs.Steps.{◌>>=◌}
-use Rattle.base_coins.specs.Coins.{Money, IsMoney, sorted_coins, stands_twice}
-use Rattle.base_coins.proofs.Order.{money_from_rises}
-use Rattle.base_coins.proofs.Sorting.{rises_sorted}
-use Rattle.base_messages.specs.declared.faults.LineFault.{LineFault}
-use Rattle.base_messages.specs.declared.faults.LineFault.TheVariants.{BadShape}
-use Rattle.base_roles.specs.declared.messages.Vote.{Vote}
-use Rattle.base_roles.specs.declared.messages.Evidence.{Evidence}
-use Rattle.base_messages.specs.declared.block.Tx.{Tx}
-use Rattle.base_messages.specs.declared.block.Block.{Block}
-use Rattle.base_messages.specs.declared.message.Msg.{Msg}
+use Rattle.base_coins.specs.{declared.coin.Coin.Coin, Steps.{◌>>=◌}, Coins.{Money, IsMoney, sorted_coins, stands_twice}}
+use Rattle.base_coins.proofs.{Order.money_from_rises, Sorting.rises_sorted}
+use Rattle.base_messages.specs.declared.{faults.LineFault.{LineFault, TheVariants.BadShape}, block.{Tx.Tx, Block.Block}}
+use Rattle.base_messages.specs.declared.message.{Msg.Msg, CommunityPoolSpend.CommunityPoolSpend}
+use Rattle.base_messages.specs.declared.message.{FundCommunityPool.FundCommunityPool, Send.Send}
+use Rattle.base_roles.specs.declared.messages.{Vote.Vote, Evidence.Evidence}
 use Rattle.base_messages.specs.declared.message.Msg.TheVariants as msg
-use Rattle.base_messages.specs.declared.message.CommunityPoolSpend.{CommunityPoolSpend}
-use Rattle.base_messages.specs.declared.message.FundCommunityPool.{FundCommunityPool}
-use Rattle.base_messages.specs.declared.message.Send.{Send}
-use Rattle.line_json.specs.declared.kind.Kind.{Kind}
-use Rattle.line_json.specs.declared.kind.Kind.TheVariants as kind
-use Rattle.line_json.specs.Reading.{tree_of}
+use Rattle.line_json.specs.{declared.kind.Kind.Kind, Reading.tree_of}
 use Rattle.line_json.specs.Members.{member_at, spelled_by, amount_of, amount_at, denom_at, number_at, user_at, account_at, moment_at, word_at, only_named}
-use Rattle.line_json.specs.Nested.{each_element, with_front, list_at}
-use Rattle.line_json.specs.Coin.{coin_of, coins_at, money_of}
-use Rattle.line_json.specs.Messages as messages
+use Rattle.line_json.specs.{Nested.{each_element, with_front, list_at}, Coin.{coin_of, coins_at, money_of}}
 use Rattle.line_json.specs.Block.{vote_of, evidence_of, tx_of, block_of_tree, block_of}
+use Rattle.line_json.specs.declared.kind.Kind.TheVariants as kind
+use Rattle.line_json.specs.Messages as messages
 use Rattle.rule_machine.specs.Promises.{MessageHasCoins, TxHasCoins}
 
 -- ---- what holds of what reading gives

@@ -1,23 +1,15 @@
 -- A stopped run and one that goes on from its rows print what one run prints.
-use Rattle.std.proofs.Common.{◌≡◌, ◌∙◌, inl, inr, ℕ, ◌+◌, List, [], ◌∷◌, ◌++◌, length, Some, Result, Ok, refl, sym, ap, subst, append_assoc}
-use Rattle.std.proofs.lemmas.List.{append-nil}
+use Rattle.std.proofs.Common.{◌≡◌, ◌∙◌, inl, inr, ℕ, ◌+◌, List, [], ◌∷◌, ◌++◌, length, Some, Result, Ok, refl, sym, ap, subst, append_assoc, append-nil}
 use Rattle.base_bech32.specs.declared.form.Form.{Form}
 use Rattle.rule_modules.specs.Chain.{State}
 use Rattle.run_generated.specs.Writing.{IsFront}
 use Rattle.store_commits.specs.Held.{items_at, rows_at}
 use Rattle.store_items.specs.Stored.{AreStored}
 use Rattle.store_resuming.specs.Restored.{IsStorable}
-use Rattle.run_app.specs.declared.status.LineStop.{LineStop}
-use Rattle.run_app.specs.Laws.{IsRest, MayGoOn}
-use Rattle.run_app.specs.Lines.{lines_of}
-use Rattle.run_app.specs.Machine.{Answer, Standing, report_of}
-use Rattle.run_app.specs.Rejoined.{AreJoined, RunsGoOn, StoppedRunsGoOn}
-use Rattle.run_app.specs.Runs.{AreAnswered, ran_from, ran_report}
-use Rattle.run_app.specs.Stops.{IsOfAnswers}
-use Rattle.run_app.proofs.AlikeLemmas.{rows_decide}
-use Rattle.run_app.proofs.OnwardLemmas.{runs_may_go_on}
-use Rattle.run_app.proofs.RestLemmas.{answers_join, the_rest}
-use Rattle.run_app.proofs.StopLemmas.{one_more}
+use Rattle.run_app.specs.{declared.status.LineStop.LineStop, Laws.{IsRest, MayGoOn}, Lines.lines_of}
+use Rattle.run_app.specs.{Machine.{Answer, Standing, report_of}, Rejoined.{AreJoined, RunsGoOn, StoppedRunsGoOn}}
+use Rattle.run_app.{specs.{Runs.{AreAnswered, ran_from, ran_report}, Stops.IsOfAnswers}, proofs.AlikeLemmas.rows_decide}
+use Rattle.run_app.proofs.{OnwardLemmas.runs_may_go_on, RestLemmas.{answers_join, the_rest}, StopLemmas.one_more}
 
 -- the texts of answers are one
 one_text : (form : Form) (n : ℕ) (s : Standing) (lines : List (List ℕ)) (a b : List ℕ) (e f : Standing) → AreAnswered form n s lines a e → AreAnswered form n s lines b f → a ≡ b

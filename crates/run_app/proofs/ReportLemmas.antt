@@ -1,16 +1,12 @@
 -- The report of a state is written from its items and its pending rewards.
-use Rattle.std.proofs.Common.{◌≡◌, ◌∙◌, ℕ, List, [], ◌∷◌, ◌++◌, Some, Ok, refl, ap, subst, sym}
-use Rattle.std.specs.List.Sorted.{IsPermutation}
-use Rattle.std.proofs.lemmas.List.Elements.{All-from_recursion}
-use Rattle.std.proofs.lemmas.List.Sorted.{IsPermutation-refl}
+use Rattle.std.proofs.Common.{◌≡◌, ◌∙◌, ℕ, List, [], ◌∷◌, ◌++◌, Some, Ok, refl, ap, subst, sym, IsPermutation}
+use Rattle.std.proofs.lemmas.List.{Elements.All-from_recursion, Sorted.IsPermutation-refl}
 use Rattle.base_bech32.specs.declared.form.Form.{Form}
 use Rattle.base_roles.specs.declared.items.Item.{Item}
 use Rattle.base_messages.specs.declared.report.Pending.{Pending}
 use Rattle.rule_modules.specs.Chain.{State}
-use Rattle.rule_machine.specs.Items.{IsInKeyOrder, items_of}
-use Rattle.rule_machine.specs.Report.{pending_of}
-use Rattle.line_report.specs.Groups.{report_from}
-use Rattle.line_report.specs.Laws.{AreItemsOf, IsUnread, StatesAreReported}
+use Rattle.rule_machine.specs.{Items.{IsInKeyOrder, items_of}, Report.pending_of}
+use Rattle.line_report.specs.{Groups.report_from, Laws.{AreItemsOf, IsUnread, StatesAreReported}}
 use Rattle.line_report.specs.Lines.{lines_of, text_of}
 use Rattle.run_app.specs.Machine.{report_of}
 

@@ -1,28 +1,22 @@
 -- What a run writes that goes on from where lines led is the rest of what one run writes.
-use Rattle.std.proofs.Common.{◌≡◌, ◌∙◌, ℕ, ◌+◌, Bool, true, false, List, [], ◌∷◌, ◌++◌, length, nat_lt, if◌then◌else◌, Option, Some, None, Result, Ok, Err, refl, sym, ap, subst, arith}
-use Rattle.std.specs.Prelude.{option_map}
+use Rattle.std.proofs.Common.{◌≡◌, ◌∙◌, ℕ, ◌+◌, Bool, true, false, List, [], ◌∷◌, ◌++◌, length, nat_lt, if◌then◌else◌, Option, Some, None, Result, Ok, Err, refl, sym, ap, subst, arith, option_map}
 use Rattle.base_bech32.specs.declared.form.Form.{Form}
 use Rattle.base_roles.specs.declared.refusal.Refusal.{Refusal}
-use Rattle.line_json.specs.Block.{block_of}
-use Rattle.line_json.specs.Genesis.{genesis_of}
-use Rattle.rule_machine.specs.GenesisConditions.{start_condition}
-use Rattle.rule_machine.specs.Machine.{Step, step}
+use Rattle.line_json.specs.{Block.block_of, Genesis.genesis_of}
+use Rattle.rule_machine.specs.{GenesisConditions.start_condition, Machine.{Step, step}}
 use Rattle.rule_machine.specs.Report as machine
 use Rattle.line_report.specs.Lines as report
-use Rattle.base_messages.specs.declared.block.Block.{Block}
-use Rattle.base_messages.specs.declared.faults.BlockFault.{BlockFault}
-use Rattle.base_messages.specs.declared.faults.BlockFault.TheVariants as block
-use Rattle.base_messages.specs.declared.faults.LineFault.{LineFault}
-use Rattle.base_messages.specs.declared.faults.LineFault.TheVariants as fault
+use Rattle.base_messages.specs.declared.{block.Block.Block, faults.{BlockFault.BlockFault, LineFault.LineFault}}
 use Rattle.base_messages.specs.declared.genesis.Genesis.{Genesis}
+use Rattle.base_messages.specs.declared.faults.BlockFault.TheVariants as block
+use Rattle.base_messages.specs.declared.faults.LineFault.TheVariants as fault
 use Rattle.rule_modules.specs.Chain.{State}
-use Rattle.run_app.specs.declared.status.LineStop.{LineStop}
-use Rattle.run_app.specs.declared.status.LineStop.TheVariants as stop
-use Rattle.run_app.specs.Laws.{AnswersJoin, IsRest, ResumesAreTheRest, moved}
+use Rattle.run_app.specs.{declared.status.LineStop.LineStop, Laws.{AnswersJoin, IsRest, ResumesAreTheRest, moved}}
 use Rattle.run_app.specs.Machine.{Answer, Standing, answer_within, applied_answer, block_answer, genesis_answer, line_answer, longest, not_applied, not_read, report_of, started_answer}
 use Rattle.run_app.specs.Runs.{AreAnswered, Ran, before, ran_after, ran_from, ran_report}
 use Rattle.run_app.proofs.RunLemmas.{answered-append, ran-append}
 use Rattle.run_app.proofs.SoundLemmas.{Begun, Led, block_led, genesis_led, within}
+use Rattle.run_app.specs.declared.status.LineStop.TheVariants as stop
 
 -- two answers are one, or both are faults
 abbrev AreAlike : Result Answer LineStop → Result Answer LineStop → Type 0

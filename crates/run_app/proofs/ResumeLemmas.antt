@@ -1,42 +1,31 @@
 -- Runs that go on from the rows of their keeper.
-use Rattle.std.proofs.Common.{◌≡◌, ◌≢◌, ◌∙◌, ◌⊎◌, inl, inr, ℕ, Bool, true, false, true≢false, List, [], ◌∷◌, ◌++◌, Option, Some, None, Result, Ok, Err, IfSome, refl, sym, ap, subst, Ordering, Less, Equal, Greater}
-use Rattle.std.specs.Prelude.{IsErrOf, IsSome, ⊤}
-use Rattle.std.specs.List.{AllByRecursion}
-use Rattle.std.specs.Ordering.{match_ordering}
+use Rattle.std.proofs.Common.{◌≡◌, ◌≢◌, ◌∙◌, ◌⊎◌, inl, inr, ℕ, Bool, true, false, true≢false, List, [], ◌∷◌, ◌++◌, Option, Some, None, Result, Ok, Err, IfSome, refl, sym, ap, subst, Ordering, Less, Equal, Greater, IsErrOf, IsSome}
+use Rattle.std.specs.{Prelude.⊤, List.AllByRecursion, Ordering.match_ordering}
 use Rattle.base_bech32.specs.declared.form.Form.{Form}
 use Rattle.chain_whole.specs.Chained.{Chained}
 use Rattle.run_generated.specs.Writing.{IsFront}
-use Rattle.base_io.specs.declared.keeper.Change.{Change}
-use Rattle.base_io.specs.declared.keeper.KeepFault.{KeepFault as Unkept}
-use Rattle.base_io.specs.Outside.{Rose}
+use Rattle.base_io.specs.{declared.{keeper.{Change.Change, KeepFault.{KeepFault as Unkept}}}, Outside.Rose}
 use Rattle.base_io.specs.Rows.{Makes, Pair, key_cmp, put}
 use Rattle.base_io.specs.Changes.{ChangeRows, ChangesRows, IsOrdinary, LeavesRows, changed}
 use Rattle.base_roles.specs.declared.items.Item.{Item}
-use Rattle.rule_machine.specs.Items.{items_of}
-use Rattle.rule_machine.specs.Report.{report_of}
+use Rattle.rule_machine.specs.{Items.items_of, Report.report_of}
 use Rattle.chain_modules.specs.Kept.{StandsFor}
-use Rattle.line_report.specs.declared.question.Query.{Query}
-use Rattle.line_report.specs.Asking.{answered_by}
+use Rattle.line_report.specs.{declared.question.Query.Query, Asking.answered_by}
 use Rattle.store_resuming.specs.declared.fault.RestoreFault.{RestoreFault}
-use Rattle.store_resuming.specs.declared.fault.RestoreFault.TheVariants as fault
-use Rattle.store_commits.specs.Commits.{Commits, LeadTo}
 use Rattle.store_resuming.specs.Restored.{AreLoaded, AreOfNone, AreStateRows, HaveSameRows, IsStorable, old_rows_of, rows_of, state_rows}
 use Rattle.store_resuming.specs.Restoring.{AreBrought, AreMigrated, IsChainOf, IsOfNothing, IsRestored, IsUnrestored, UnlessFailed}
 use Rattle.store_resuming.proofs.RestoreLemmas.{formats_same, same_itself}
-use Rattle.store_rows.specs.declared.format.Format.{Format}
-use Rattle.store_rows.specs.declared.format.Format.TheVariants.{Second}
-use Rattle.store_rows.specs.Rows.{row_in}
+use Rattle.store_resuming.specs.declared.fault.RestoreFault.TheVariants as fault
+use Rattle.store_commits.specs.Commits.{Commits, LeadTo}
+use Rattle.store_rows.specs.{declared.format.Format.{Format, TheVariants.Second}, Rows.row_in}
 use Rattle.rule_modules.specs.Chain.{State}
 use Rattle.store_items.specs.Stored.{AreStored, rows_as, rows_in}
 use Rattle.run_app.specs.declared.status.Status.{Status}
 use Rattle.run_app.specs.declared.status.Status.TheVariants.{Done, Usage, BadInput, Limit, ReadFault, WriteFault, KeepFault, NoMemory, BadStore, WrongStore, NotFound, NoPast}
-use Rattle.run_app.specs.Kept.{AreLeft, Began, BeganOnRows, Keeping, LeftIn, UnlessKeepFault}
-use Rattle.run_app.specs.Machine.{Standing}
+use Rattle.run_app.specs.{Kept.{AreLeft, Began, BeganOnRows, Keeping, LeftIn, UnlessKeepFault}, Machine.Standing}
 use Rattle.run_app.specs.Outcome.{RunEnds}
 use Rattle.run_app.specs.Resumes.{Answers, AsksCalmly, Asked, FitsState, GoesOn, IsAnswered, IsUnresumed, QueryEnds, ResumeEnds, ResumesCalmly, on_rows_of, status_of_restore}
-use Rattle.run_app.specs.Unkept.{IsOfNoRows}
-use Rattle.run_app.specs.Writes.{Adds, Writes}
-use Rattle.run_app.proofs.DriveLemmas.{untroubled_run}
+use Rattle.run_app.{specs.{Unkept.IsOfNoRows, Writes.{Adds, Writes}}, proofs.DriveLemmas.untroubled_run}
 use Rattle.run_app.proofs.ModeLemmas.{nothing, nothing_done, rows_left, written_to_end}
 
 -- ---- rows that were loaded

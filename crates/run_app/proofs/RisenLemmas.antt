@@ -1,15 +1,10 @@
 -- A block leads to a greater height, so what it leads to is a commit that every keeper takes.
-use Rattle.std.proofs.Common.{◌≡◌, ◌∙◌, ℕ, ◌+◌, ◌<◌, ◌^◌, List, Some, Ok, refl, sym, subst, arith}
-use Rattle.std.specs.Prelude.{Contains}
+use Rattle.std.proofs.Common.{◌≡◌, ◌∙◌, ℕ, ◌+◌, ◌<◌, ◌^◌, List, Some, Ok, refl, sym, subst, arith, Contains}
 use Rattle.base_bech32.specs.declared.form.Form.{Form}
 use Rattle.line_json.specs.Block.{block_of}
 use Rattle.rule_machine.specs.Machine.{step}
-use Rattle.rule_modules.specs.Chain.{State}
-use Rattle.rule_modules.specs.Sound.{IsSound}
-use Rattle.law_soundness.proofs.Burns.{total_in}
-use Rattle.law_soundness.proofs.Points.{to_fits}
-use Rattle.law_soundness.proofs.Running.{StepFits, block_fits}
-use Rattle.law_soundness.proofs.Steps.{from_if}
+use Rattle.rule_modules.specs.{Chain.State, Sound.IsSound}
+use Rattle.law_soundness.proofs.{Burns.total_in, Points.to_fits, Running.{StepFits, block_fits}, Steps.from_if}
 use Rattle.store_commits.specs.Held.{HasRisen}
 use Rattle.run_app.specs.Machine.{Standing, block_answer}
 use Rattle.run_app.proofs.ReadLemmas.{block_has_coins, height_is_low, its_coins}

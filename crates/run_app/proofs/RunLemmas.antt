@@ -1,11 +1,8 @@
 -- Runs that go on, and how the stop of a part is the stop of the whole.
-use Rattle.std.proofs.Common.{inl, inr, ◌≡◌, ◌∙◌, ℕ, ◌+◌, ◌≤◌, List, [], ◌∷◌, ◌++◌, length, Option, Some, refl, sym, ap, append_assoc, arith, add-zero, length-append}
-use Rattle.std.proofs.lemmas.List.{append-nil}
+use Rattle.std.proofs.Common.{inl, inr, ◌≡◌, ◌∙◌, ℕ, ◌+◌, ◌≤◌, List, [], ◌∷◌, ◌++◌, length, Option, Some, refl, sym, ap, append_assoc, arith, add-zero, length-append, append-nil}
 use Rattle.base_bech32.specs.declared.form.Form.{Form}
-use Rattle.run_app.specs.declared.status.LineStop.{LineStop}
-use Rattle.run_app.specs.declared.status.LineStop.TheVariants.{BadInput, Long, Ratio, Write, Keep, NoMemory}
-use Rattle.run_app.specs.Lines.{whole_from, rest_from, lines_from}
-use Rattle.run_app.specs.Machine.{Standing}
+use Rattle.run_app.specs.declared.status.LineStop.{LineStop, TheVariants.{BadInput, Long, Ratio, Write, Keep, NoMemory}}
+use Rattle.run_app.specs.{Lines.{whole_from, rest_from, lines_from}, Machine.Standing}
 use Rattle.run_app.specs.Runs.{before, ran_from, AreAnswered, Named, Wrote, Unkept, Held}
 use Rattle.run_app.specs.Parts.{PartEnds, PartStops, Grows, Fed}
 use Rattle.run_app.proofs.CutLemmas.{whole-append, rest-append, lines-append, whole_no_longer}

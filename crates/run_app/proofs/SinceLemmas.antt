@@ -1,21 +1,15 @@
 -- A run over rows that a load left is a run over the rows before it.
-use Rattle.std.proofs.Common.{◌≡◌, ◌⊎◌, inl, inr, true≢false, ℕ, List, Option, Some, None, IfSome, refl, sym, subst}
-use Rattle.std.specs.Prelude.{IsSome}
+use Rattle.std.proofs.Common.{◌≡◌, ◌⊎◌, inl, inr, true≢false, ℕ, List, Option, Some, None, IfSome, refl, sym, subst, IsSome}
 use Rattle.base_bech32.specs.declared.form.Form.{Form}
 use Rattle.base_io.specs.Rows.{Makes, Pair}
-use Rattle.run_words.specs.declared.mode.Mode.{Mode}
-use Rattle.run_words.specs.declared.mode.Mode.TheVariants.{Replay, Resume, Query, Tally, Check, Gen, Trial}
+use Rattle.run_words.specs.declared.mode.Mode.{Mode, TheVariants.{Replay, Resume, Query, Tally, Check, Gen, Trial}}
 use Rattle.store_history.proofs.KeepingLemmas.{makes_later, told_back}
 use Rattle.store_resuming.specs.Restored.{AreLoaded, AreStateRows, old_rows_of, rows_of}
 use Rattle.run_app.specs.declared.status.Status.{Status}
 use Rattle.run_app.specs.declared.status.Status.TheVariants.{Done, Usage, BadInput, Limit, ReadFault, WriteFault, KeepFault, NoMemory, BadStore, WrongStore, NotFound, NoPast}
-use Rattle.run_app.specs.declared.status.LimitKind.TheVariants.{Line, Input, Ratio, Bound}
-use Rattle.run_app.specs.declared.status.LineStop.{LineStop}
-use Rattle.run_app.specs.Histories.{IsCommitting}
-use Rattle.run_app.specs.Kept.{AreLeft, AreSome, BeganOnRows, IsUnbegun, LeftIn}
-use Rattle.run_app.specs.Machine.{Standing}
-use Rattle.run_app.specs.Modes.{ModeEnds, ReplayEnds}
-use Rattle.run_app.specs.Outcome.{Ends, Passed, RunEnds}
+use Rattle.run_app.specs.declared.status.{LimitKind.TheVariants.{Line, Input, Ratio, Bound}, LineStop.LineStop}
+use Rattle.run_app.specs.{Histories.IsCommitting, Kept.{AreLeft, AreSome, BeganOnRows, IsUnbegun, LeftIn}}
+use Rattle.run_app.specs.{Machine.Standing, Modes.{ModeEnds, ReplayEnds}, Outcome.{Ends, Passed, RunEnds}}
 use Rattle.run_app.specs.Resumes.{GoesOn, IsUnmigrated, IsUnresumed, ResumeEnds}
 use Rattle.run_app.specs.Runs.{Answered, Finished, Held, Lacking, Named, Reported, Unkept, Wrote}
 

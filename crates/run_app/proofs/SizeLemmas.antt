@@ -1,28 +1,20 @@
 -- A list that a line spells has no more elements than the line has bytes, and one more.
-use Rattle.std.proofs.Common.{◌≡◌, ℕ, zero, suc, ◌+◌, ◌<◌, ◌≤◌, Bool, true, false, cond, List, [], ◌∷◌, ◌++◌, length, Option, Some, None, option_map, option_and_then, Result, Ok, Err, refl, ap, subst, arith, codes}
-use Rattle.std.specs.Prelude.{⊤}
-use Rattle.std.specs.declared.cmp.Ordering.{Ordering}
-use Rattle.std.specs.declared.cmp.Ordering.TheVariants.{Less, Equal, Greater}
-use Rattle.std.specs.Ordering.{nat_cmp, match_ordering}
-use Rattle.std.specs.Cmp.Lexicographic.{slice_cmp}
+use Rattle.std.proofs.Common.{◌≡◌, ℕ, zero, suc, ◌+◌, ◌<◌, ◌≤◌, Bool, true, false, cond, List, [], ◌∷◌, ◌++◌, length, Option, Some, None, option_map, option_and_then, Result, Ok, Err, refl, ap, subst, arith, codes, Ordering, Less, Equal, Greater, nat_cmp}
+use Rattle.std.specs.{Prelude.⊤, Ordering.match_ordering, Cmp.Lexicographic.slice_cmp}
 use Rattle.json.specs.Token.{Token}
-use Rattle.json.specs.Json as json
 use Rattle.json.specs.Json.{Json, Parse, parse_map, after_end_array, read_key, items_step, members_step, if_last}
 use Rattle.json.specs.Lex.{Lexeme, Mode, Class, Place, class, lex, lex_byte, tokens, punctuate, place_token, if_allowed, begins_colon, may_begin, may_close}
-use Rattle.json.specs.Lex as lexer
 use Rattle.json.proofs.Grammar.{left, skip_value-shorter, read_key-shorter}
+use Rattle.json.specs.Json as json
+use Rattle.json.specs.Lex as lexer
 use Rattle.serde_json.specs.Data.{Data, null, boolean, number, string, array, object, Items, no_items, item, Members, no_members, member, put}
-use Rattle.serde_json.specs.Find.{get, get_member, as_array}
-use Rattle.serde_json.specs.Read.{of_json, of_items, of_members, read, max_depth}
+use Rattle.serde_json.specs.{Find.{get, get_member, as_array}, Read.{of_json, of_items, of_members, read, max_depth}}
 use Rattle.base_bech32.specs.declared.form.Form.{Form}
 use Rattle.base_coins.specs.Steps.{◌>>=◌}
-use Rattle.base_messages.specs.declared.faults.LineFault.{LineFault}
-use Rattle.base_messages.specs.declared.faults.LineFault.TheVariants.{BadShape, NotJson}
+use Rattle.base_messages.specs.declared.faults.LineFault.{LineFault, TheVariants.{BadShape, NotJson}}
 use Rattle.base_messages.specs.declared.genesis.Genesis.{Genesis}
-use Rattle.line_json.specs.Reading.{or_fault, tree_of}
-use Rattle.line_json.specs.Members.{member_at, moment_at, word_at, only_named}
-use Rattle.line_json.specs.Nested.{each_element, with_front, list_at, object_at}
-use Rattle.line_json.specs.Params.{params_of}
+use Rattle.line_json.specs.{Reading.{or_fault, tree_of}, Members.{member_at, moment_at, word_at, only_named}}
+use Rattle.line_json.specs.{Nested.{each_element, with_front, list_at, object_at}, Params.params_of}
 use Rattle.line_json.specs.Genesis.{account_of_tree, validator_of, delegation_of, genesis_of_tree, genesis_of}
 use Rattle.run_app.specs.Sizes.{DelegationsAreFew}
 

@@ -1,35 +1,20 @@
 -- Lines that are answered are a replay.
-use Rattle.std.proofs.Common.{◌≡◌, ◌∙◌, ℕ, ◌+◌, ◌^◌, ◌<◌, ◌≤◌, Bool, true, false, cond, nat_lt, length, All, List, [], ◌∷◌, ◌++◌, Option, Some, None, Result, Ok, Err, refl, sym, ap, arith}
-use Rattle.std.specs.Prelude.{Contains, IsOkAnd}
-use Rattle.std.specs.List.{AllByRecursion}
-use Rattle.std.proofs.lemmas.Bool.Decides.{nat_tests}
-use Rattle.std.proofs.lemmas.List.Elements.{All-from_recursion}
+use Rattle.std.proofs.Common.{◌≡◌, ◌∙◌, ℕ, ◌+◌, ◌^◌, ◌<◌, ◌≤◌, Bool, true, false, cond, nat_lt, length, All, List, [], ◌∷◌, ◌++◌, Option, Some, None, Result, Ok, Err, refl, sym, ap, arith, Contains, IsOkAnd}
+use Rattle.std.{specs.List.AllByRecursion, proofs.lemmas.{Bool.Decides.nat_tests, List.Elements.All-from_recursion}}
 use Rattle.base_bech32.specs.declared.form.Form.{Form}
 use Rattle.base_roles.specs.declared.refusal.Refusal.{Refusal}
-use Rattle.base_messages.specs.declared.faults.BlockFault.{BlockFault}
-use Rattle.base_messages.specs.declared.faults.LineFault.{LineFault}
-use Rattle.base_messages.specs.declared.genesis.Genesis.{Genesis}
+use Rattle.base_messages.specs.declared.{faults.{BlockFault.BlockFault, LineFault.LineFault}, genesis.Genesis.Genesis}
 use Rattle.base_messages.specs.declared.block.Block.{Block}
-use Rattle.line_json.specs.Genesis.{genesis_of}
-use Rattle.line_json.specs.Block.{block_of}
-use Rattle.line_json.specs.Written.{text_of_genesis, text_of_block}
-use Rattle.rule_modules.specs.Chain.{State}
-use Rattle.rule_modules.specs.Sound.{IsSound}
-use Rattle.rule_machine.specs.GenesisConditions.{start_condition}
-use Rattle.rule_machine.specs.GenesisState.{Start, chain_started}
+use Rattle.line_json.specs.{Genesis.genesis_of, Block.block_of, Written.{text_of_genesis, text_of_block}}
+use Rattle.rule_modules.specs.{Chain.State, Sound.IsSound}
+use Rattle.rule_machine.specs.{GenesisConditions.start_condition, GenesisState.{Start, chain_started}}
 use Rattle.rule_machine.specs.Machine.{Run, Step, block_checked, going_on, run_of, step}
-use Rattle.rule_machine.specs.Promises.{IsGoodGenesis, Replayed}
-use Rattle.rule_machine.proofs.DueLemmas.{is_due}
-use Rattle.law_soundness.proofs.Points.{StateFits, to_fits}
-use Rattle.law_soundness.proofs.Burns.{total_in}
-use Rattle.law_soundness.proofs.Running.{StepFits, block_fits, first_ok}
-use Rattle.law_soundness.proofs.Starting.{started_well}
-use Rattle.law_soundness.proofs.Founding.{genesis_is_sound}
-use Rattle.law_soundness.proofs.Steps.{from_if}
+use Rattle.rule_machine.{specs.Promises.{IsGoodGenesis, Replayed}, proofs.DueLemmas.is_due}
+use Rattle.law_soundness.proofs.{Points.{StateFits, to_fits}, Burns.total_in, Running.{StepFits, block_fits, first_ok}}
+use Rattle.law_soundness.proofs.{Starting.started_well, Founding.genesis_is_sound, Steps.from_if}
 use Rattle.run_app.specs.declared.status.LineStop.TheVariants as stop
 use Rattle.run_app.specs.Machine.{Standing, Answer, longest, line_answer, answer_within, genesis_answer, started_answer, begun, told, block_answer, applied_answer, stepped}
-use Rattle.run_app.specs.Runs.{AreAnswered}
-use Rattle.run_app.specs.Laws.{SpellBlocks, texts_of, LinesAreReplayed}
+use Rattle.run_app.specs.{Runs.AreAnswered, Laws.{SpellBlocks, texts_of, LinesAreReplayed}}
 use Rattle.run_app.proofs.ReadLemmas.{AllHaveCoins, block_has_coins, all_have_coins, height_is_low, its_coins}
 use Rattle.run_app.proofs.SizeLemmas.{delegations_few}
 

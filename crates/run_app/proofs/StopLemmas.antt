@@ -1,40 +1,25 @@
 -- What a stop may leave behind a run, whatever the status by which it ended.
-use Rattle.std.proofs.Common.{inl, inr, ◌≡◌, ◌∙◌, ◌⊎◌, ℕ, ◌+◌, List, [], ◌∷◌, ◌++◌, length, Option, Some, None, Ok, refl, sym, ap, subst, append_assoc}
-use Rattle.std.specs.Prelude.{IfSome, IsSome}
-use Rattle.std.proofs.lemmas.List.{append-nil}
+use Rattle.std.proofs.Common.{inl, inr, ◌≡◌, ◌∙◌, ◌⊎◌, ℕ, ◌+◌, List, [], ◌∷◌, ◌++◌, length, Option, Some, None, Ok, refl, sym, ap, subst, append_assoc, IfSome, IsSome, append-nil}
 use Rattle.base_bech32.specs.declared.form.Form.{Form}
 use Rattle.run_generated.specs.Writing.{IsFront}
-use Rattle.base_io.specs.Outside.{IsPart}
-use Rattle.base_io.specs.Rows.{Pair}
+use Rattle.base_io.specs.{Outside.IsPart, Rows.Pair}
 use Rattle.store_resuming.specs.Restored.{AreStateRows, HaveSameRows, IsStorable, rows_of, state_rows}
 use Rattle.store_resuming.proofs.RestoreLemmas.{formats_same}
-use Rattle.store_rows.specs.declared.format.Format.{Format}
-use Rattle.store_rows.specs.declared.format.Format.TheVariants.{First, Second}
+use Rattle.store_rows.specs.declared.format.Format.{Format, TheVariants.{First, Second}}
 use Rattle.rule_modules.specs.Chain.{State}
-use Rattle.run_words.specs.declared.mode.Command.{Command}
-use Rattle.run_words.specs.declared.mode.Mode.{Mode}
+use Rattle.run_words.specs.declared.mode.{Command.Command, Mode.Mode}
 use Rattle.run_words.specs.declared.mode.Mode.TheVariants.{Replay, Resume, Query, Tally, Check, Gen, Trial}
-use Rattle.run_app.specs.declared.status.LimitKind.TheVariants.{Line, Input, Ratio, Bound}
-use Rattle.run_app.specs.declared.status.Status.{Status}
+use Rattle.run_app.specs.declared.status.{LimitKind.TheVariants.{Line, Input, Ratio, Bound}, Status.Status}
 use Rattle.run_app.specs.declared.status.Status.TheVariants.{Done, Usage, BadInput, Limit, ReadFault, WriteFault, KeepFault, NoMemory, BadStore, WrongStore, NotFound, NoPast}
-use Rattle.run_app.specs.declared.status.LineStop.{LineStop}
-use Rattle.run_app.specs.Kept.{AreLeft, AreRowsOf, LeftIn}
-use Rattle.run_app.specs.Lines.{lines_of, lines_from, whole_from, rest_from}
-use Rattle.run_app.specs.Machine.{Standing, line_answer}
-use Rattle.run_app.specs.Modes.{ModeEnds, ReplayEnds}
-use Rattle.run_app.specs.Outcome.{AreEnded, Ends, Passed, RunEnds}
+use Rattle.run_app.specs.{declared.status.LineStop.LineStop, Kept.{AreLeft, AreRowsOf, LeftIn}}
+use Rattle.run_app.specs.{Lines.{lines_of, lines_from, whole_from, rest_from}, Machine.{Standing, line_answer}}
+use Rattle.run_app.specs.{Modes.{ModeEnds, ReplayEnds}, Outcome.{AreEnded, Ends, Passed, RunEnds}}
 use Rattle.run_app.specs.Runs.{AreAnswered, Named, Wrote, Unkept, Held, Answered, Reported, Lacking, Finished}
-use Rattle.run_app.specs.Resumes.{ResumeEnds}
-use Rattle.run_app.specs.declared.performing.Way.{Way}
-use Rattle.run_app.specs.declared.performing.Way.TheVariants.{Plain, Kept, Past}
-use Rattle.run_app.specs.Commands.{CommandStops, WayStops, way_of}
+use Rattle.run_app.specs.{Resumes.ResumeEnds, declared.performing.Way.{Way, TheVariants.{Plain, Kept, Past}}}
+use Rattle.run_app.specs.{Commands.{CommandStops, WayStops, way_of}, Stops.{AreRowsBehind, ModeStops, RunStops}}
+use Rattle.run_app.{specs.{Told.IsToldAs, Writes.Adds}, proofs.CutLemmas.lines-append}
+use Rattle.run_app.proofs.{RunLemmas.{answered-append, no_growth}, WholeLemmas.{Reports, reports}}
 use Rattle.store_history.specs.Held.{ShowsLeft, shown}
-use Rattle.run_app.specs.Stops.{AreRowsBehind, ModeStops, RunStops}
-use Rattle.run_app.specs.Told.{IsToldAs}
-use Rattle.run_app.specs.Writes.{Adds}
-use Rattle.run_app.proofs.CutLemmas.{lines-append}
-use Rattle.run_app.proofs.RunLemmas.{answered-append, no_growth}
-use Rattle.run_app.proofs.WholeLemmas.{Reports, reports}
 
 -- ---- fronts of texts
 

@@ -1,22 +1,16 @@
 -- Lines of an input that are taken one after another.
 use Rattle.std.proofs.Common.{◌≡◌, ◌≢◌, ◌∙◌, ◌⊎◌, inl, inr, ℕ, ◌+◌, ◌<◌, ◌≤◌, Bool, true, false, cond, ◌==◌, List, [], ◌∷◌, ◌++◌, append-nil, append_assoc, length, length-append, take, drop, Option, Result, Ok, Err, OnOk, IfErr, IfSome, refl, sym, ap, subst, arith, add-zero, ne_eqb}
 use Rattle.base_io.specs.Calls.{Stays}
-use Rattle.run_app.specs.declared.status.Status.{Status}
-use Rattle.run_app.specs.declared.status.Status.TheVariants.{Limit, ReadFault, WriteFault}
-use Rattle.run_app.specs.declared.status.LimitKind.TheVariants.{Line, Input}
-use Rattle.run_app.specs.declared.status.LineStop.{LineStop}
-use Rattle.run_app.specs.declared.status.LineStop.TheVariants as stop
-use Rattle.run_app.specs.Ending.{status_of}
-use Rattle.run_app.specs.Lines.{whole_from, rest_from, last_line, lines_from, lines_of}
-use Rattle.run_app.specs.Machine.{longest}
-use Rattle.run_app.specs.Outcome.{most_bytes}
-use Rattle.run_app.specs.Parts.{HasNoEnd, NotExtended}
+use Rattle.run_app.specs.declared.status.Status.{Status, TheVariants.{Limit, ReadFault, WriteFault}}
+use Rattle.run_app.specs.{declared.status.{LimitKind.TheVariants.{Line, Input}, LineStop.LineStop}, Ending.status_of}
+use Rattle.run_app.specs.{Lines.{whole_from, rest_from, last_line, lines_from, lines_of}, Machine.longest}
+use Rattle.run_app.specs.{Outcome.most_bytes, Parts.{HasNoEnd, NotExtended}}
 use Rattle.run_app.specs.Taking.{Halts, IsFed, IsUntaken, Leads, MayEnd, MayStop, MeetsLong, Pauses, StopsSo, TakesAll, TakesPart}
-use Rattle.run_app.specs.Told.{Told}
-use Rattle.run_app.proofs.BallotLemmas.{all_with, one_more}
+use Rattle.run_app.{specs.Told.Told, proofs.BallotLemmas.{all_with, one_more}}
 use Rattle.run_app.proofs.CutLemmas.{lines-append, rest-append, rest_none, rest_one, whole-append, whole_no_longer, whole_none}
 use Rattle.run_app.proofs.DriveLemmas.{TookBytes, told_all, told_more, told_rest, told_still}
 use Rattle.run_app.proofs.PartLemmas.{last-none, parted}
+use Rattle.run_app.specs.declared.status.LineStop.TheVariants as stop
 
 -- ---- a line that is too long
 

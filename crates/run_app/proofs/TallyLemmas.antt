@@ -1,42 +1,28 @@
 -- Ballots that are counted over the rows of a keeper.
 use Rattle.std.proofs.Common.{◌≡◌, ◌∙◌, ◌⊎◌, inl, inr, ℕ, ◌+◌, ◌≤◌, List, [], ◌∷◌, ◌++◌, length, length-append, Option, Result, Ok, Err, refl, ap, subst, arith}
 use Rattle.base_bech32.specs.declared.form.Form.{Form}
-use Rattle.base_io.specs.Outside.{Rose}
-use Rattle.base_io.specs.Rows.{Makes, Pair}
-use Rattle.base_roles.specs.declared.items.Item.{Item}
-use Rattle.base_roles.specs.Entries.{at}
-use Rattle.base_roles.specs.Staked.{Staked}
+use Rattle.base_io.specs.{Outside.Rose, Rows.{Makes, Pair}}
+use Rattle.base_roles.specs.{declared.items.Item.Item, Entries.at, Staked.Staked}
 use Rattle.base_types.specs.Orders.{addr_cmp}
 use Rattle.chain_modules.specs.Kept.{StandsFor}
 use Rattle.chain_whole.specs.Chained.{Chained}
 use Rattle.line_ballots.specs.Ballots.{text_of_tally}
-use Rattle.mod_tally.specs.declared.outcome.Tally.{Tally as Totals}
-use Rattle.mod_tally.specs.Ballots.{Cast, Chosen, chosen_in}
-use Rattle.mod_tally.specs.Laws.{IsTallied}
-use Rattle.mod_tally.specs.Taken.{staked_in}
-use Rattle.mod_tally.specs.Tally.{tally_of}
+use Rattle.mod_tally.specs.{declared.{outcome.{Tally.{Tally as Totals}}}, Ballots.{Cast, Chosen, chosen_in}}
+use Rattle.mod_tally.specs.{Laws.IsTallied, Taken.staked_in, Tally.tally_of}
 use Rattle.rule_machine.specs.Items.{items_of}
-use Rattle.rule_modules.specs.Chain.{State}
-use Rattle.rule_modules.specs.Sound.{IsSound}
-use Rattle.store_resuming.specs.declared.fault.RestoreFault.{RestoreFault}
-use Rattle.store_resuming.specs.Restored.{AreLoaded, AreStateRows}
+use Rattle.rule_modules.specs.{Chain.State, Sound.IsSound}
+use Rattle.store_resuming.specs.{declared.fault.RestoreFault.RestoreFault, Restored.{AreLoaded, AreStateRows}}
 use Rattle.store_resuming.specs.Restoring.{IsChainOf, IsUnrestored}
 use Rattle.run_app.specs.declared.status.Status.{Status}
 use Rattle.run_app.specs.declared.status.Status.TheVariants.{Done, Usage, BadInput, Limit, ReadFault, WriteFault, KeepFault, NoMemory, BadStore, WrongStore, NotFound, NoPast}
-use Rattle.run_app.specs.declared.status.LimitKind.TheVariants.{Line, Input, Ratio, Bound}
-use Rattle.run_app.specs.declared.status.LineStop.{LineStop}
-use Rattle.run_app.specs.declared.status.LineStop.TheVariants as stop
+use Rattle.run_app.specs.declared.status.{LimitKind.TheVariants.{Line, Input, Ratio, Bound}, LineStop.LineStop}
 use Rattle.run_app.specs.Ballots.{AllAreKept, AreUncounted, IsOfBallots, IsUncounted, Kept, cast_from, cast_in}
-use Rattle.run_app.specs.Lines.{lines_of}
-use Rattle.run_app.specs.Outcome.{most_bytes}
-use Rattle.run_app.specs.Resumes.{status_of_restore}
-use Rattle.run_app.specs.Tallies.{Counts, TalliesCalmly, TallyEnds, text_of_cast}
-use Rattle.run_app.specs.Writes.{IsWritten, Writes}
-use Rattle.run_app.proofs.BallotLemmas.{stopped_front}
-use Rattle.run_app.proofs.ModeLemmas.{nothing, nothing_done, rows_left, written_to_end}
-use Rattle.run_app.proofs.ResumeLemmas.{alike_of, never_unresumed, unresumed, were_loaded}
-use Rattle.run_app.proofs.RunLemmas.{no_growth}
+use Rattle.run_app.specs.{Lines.lines_of, Outcome.most_bytes, Resumes.status_of_restore}
+use Rattle.run_app.specs.{Tallies.{Counts, TalliesCalmly, TallyEnds, text_of_cast}, Writes.{IsWritten, Writes}}
+use Rattle.run_app.proofs.{BallotLemmas.stopped_front, ModeLemmas.{nothing, nothing_done, rows_left, written_to_end}}
+use Rattle.run_app.proofs.{ResumeLemmas.{alike_of, never_unresumed, unresumed, were_loaded}, RunLemmas.no_growth}
 use Rattle.run_app.proofs.StopLemmas.{ended_first}
+use Rattle.run_app.specs.declared.status.LineStop.TheVariants as stop
 
 -- ---- the line of a tally
 

@@ -1,28 +1,17 @@
 -- How runs end in each way in which words ask for a command.
-use Rattle.std.proofs.Common.{◌≡◌, ◌⊎◌, inl, inr, true≢false, ℕ, Bool, true, false, List, [], Option, Some, None, IfSome, refl, sym, subst}
-use Rattle.std.specs.Prelude.{IsSome}
+use Rattle.std.proofs.Common.{◌≡◌, ◌⊎◌, inl, inr, true≢false, ℕ, Bool, true, false, List, [], Option, Some, None, IfSome, refl, sym, subst, IsSome}
 use Rattle.base_bech32.specs.declared.form.Form.{Form}
-use Rattle.base_io.specs.Outside.{Rose}
-use Rattle.base_io.specs.Rows.{Makes, Pair}
-use Rattle.run_words.specs.declared.mode.Command.{Command}
-use Rattle.run_words.specs.declared.mode.Mode.{Mode}
+use Rattle.base_io.specs.{Outside.Rose, Rows.{Makes, Pair}}
+use Rattle.run_words.specs.declared.mode.{Command.Command, Mode.Mode}
 use Rattle.run_words.specs.declared.mode.Mode.TheVariants.{Replay, Resume, Query, Tally, Check, Gen, Trial}
-use Rattle.store_history.specs.Held.{ShowsLeft, shown}
-use Rattle.store_history.specs.History.{IsHistory}
+use Rattle.store_history.specs.{Held.{ShowsLeft, shown}, History.IsHistory}
 use Rattle.store_history.proofs.KeepingLemmas.{holds_still, shown_makes, shown_some, shown_stop, some_shown}
-use Rattle.run_app.specs.declared.performing.Way.{Way}
-use Rattle.run_app.specs.declared.performing.Way.TheVariants.{Plain, Kept, Past}
-use Rattle.run_app.specs.declared.status.Status.{Status}
+use Rattle.run_app.specs.declared.{performing.Way.{Way, TheVariants.{Plain, Kept, Past}}, status.Status.Status}
 use Rattle.run_app.specs.declared.status.Status.TheVariants.{Done, Usage, BadInput, Limit, ReadFault, WriteFault, KeepFault, NoMemory, BadStore, WrongStore, NotFound, NoPast}
 use Rattle.run_app.specs.Commands.{WayEnds, WayIsUntroubled, WayStops, WayUnkept, way_in, way_of}
-use Rattle.run_app.specs.Histories.{IsCommitting, IsUnopened}
-use Rattle.run_app.specs.Kept.{AreLeft}
-use Rattle.run_app.specs.Modes.{HasFewBlocks, IsUntroubledAt, ModeEnds}
-use Rattle.run_app.specs.Stops.{ModeStops}
-use Rattle.run_app.specs.Writes.{Adds}
-use Rattle.run_app.proofs.CommandLemmas.{untroubled_command}
-use Rattle.run_app.proofs.PastLemmas.{past_ends}
-use Rattle.run_app.proofs.SinceLemmas.{mode_before}
+use Rattle.run_app.specs.{Histories.{IsCommitting, IsUnopened}, Kept.AreLeft}
+use Rattle.run_app.specs.{Modes.{HasFewBlocks, IsUntroubledAt, ModeEnds}, Stops.ModeStops, Writes.Adds}
+use Rattle.run_app.proofs.{CommandLemmas.untroubled_command, PastLemmas.past_ends, SinceLemmas.mode_before}
 use Rattle.run_app.proofs.StopLemmas.{mode_stops, unbegun_stops}
 
 -- ---- the way of a command

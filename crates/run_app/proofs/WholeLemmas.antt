@@ -4,8 +4,7 @@ use Rattle.base_bech32.specs.declared.form.Form.{Form}
 use Rattle.rule_modules.specs.Chain.{State}
 use Rattle.rule_machine.specs.Report as machine
 use Rattle.line_report.specs.Lines as report
-use Rattle.run_app.specs.declared.status.LineStop.{LineStop}
-use Rattle.run_app.specs.Lines.{lines_of}
+use Rattle.run_app.specs.{declared.status.LineStop.LineStop, Lines.lines_of}
 use Rattle.run_app.specs.Machine.{Standing, Answer, line_answer, report_of}
 use Rattle.run_app.specs.Runs.{Ran, ran_after, ran_report, ran_from, AreAnswered}
 use Rattle.run_app.specs.Laws.{LinesAreReplayed, IsReplayed, AnswersAreReplays}

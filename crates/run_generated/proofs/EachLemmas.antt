@@ -1,8 +1,6 @@
 -- What holds of whatever is drawn holds of all that is drawn in turn.
-use Rattle.std.proofs.Common.{◌≡◌, ◌∙◌, ap, refl, arith, ℕ, zero, suc, ◌+◌, ◌-◌, ◌/◌, ◌%◌, ◌^◌, ◌<◌, ◌≤◌, ◌==◌, Bool, true, false, List, [], ◌∷◌, length}
-use Rattle.std.specs.Prelude.{if◌then◌else◌, nat_lt, All}
-use Rattle.std.specs.List.{AllByRecursion}
-use Rattle.std.proofs.lemmas.List.Elements.{All-cons, All-nil}
+use Rattle.std.proofs.Common.{◌≡◌, ◌∙◌, ap, refl, arith, ℕ, zero, suc, ◌+◌, ◌-◌, ◌/◌, ◌%◌, ◌^◌, ◌<◌, ◌≤◌, ◌==◌, Bool, true, false, List, [], ◌∷◌, length, if◌then◌else◌, nat_lt, All}
+use Rattle.std.{specs.List.AllByRecursion, proofs.lemmas.List.Elements.{All-cons, All-nil}}
 use Rattle.base_messages.specs.declared.block.Tx.{Tx}
 use Rattle.base_roles.specs.declared.messages.Evidence.{Evidence}
 use Rattle.run_generated.specs.Drawing.{Draw, done, in_turn, next, numbers_from}

@@ -1,41 +1,26 @@
 -- Addresses, coins and messages of the generated input are read back from what is written of them.
-use Rattle.std.specs.List.{list_all}
-use Rattle.std.proofs.Common.{◌≡◌, ℕ, zero, suc, ◌^◌, ◌<◌, ◌==◌, nat_lt, Bool, true, false, List, [], ◌∷◌, ◌++◌, map, Some, None, option_map, Result, Ok, codes, refl, sym, ap, subst, ◌∙◌, arith, ltb-true, lt-ltb}
-use Rattle.std.specs.Prelude.{if◌then◌else◌}
-use Rattle.std.proofs.lemmas.Bool.{and_parts}
+use Rattle.std.{specs.List.list_all, proofs.lemmas.{Bool.and_parts, Fmt.IsAscii-decimal_wide, Str.IsUtf8-from_ascii}}
+use Rattle.std.proofs.Common.{◌≡◌, ℕ, zero, suc, ◌^◌, ◌<◌, ◌==◌, nat_lt, Bool, true, false, List, [], ◌∷◌, ◌++◌, map, Some, None, option_map, Result, Ok, codes, refl, sym, ap, subst, ◌∙◌, arith, ltb-true, lt-ltb, if◌then◌else◌}
 use Rattle.hex.specs.Hex.{IsBytes}
-use Rattle.serde_json.specs.Data.{Data, string}
-use Rattle.serde_json.specs.Find.{get}
+use Rattle.serde_json.specs.{Data.{Data, string}, Find.get}
 use Rattle.base_types.specs.declared.account.Account.TheVariants as account
-use Rattle.base_types.specs.Accounts.{account_from}
-use Rattle.base_types.specs.Address.{IsAddress}
-use Rattle.base_types.specs.Denom.{denom_of}
+use Rattle.base_types.specs.{Accounts.account_from, Address.IsAddress, Denom.denom_of}
 use Rattle.base_bech32.specs.declared.form.Form.{Form}
-use Rattle.base_coins.specs.declared.coin.Coin.{Coin}
-use Rattle.base_coins.specs.Coins.{Money}
-use Rattle.base_coins.specs.Steps.{◌>>=◌}
-use Rattle.base_messages.specs.declared.faults.LineFault.{LineFault}
-use Rattle.base_messages.specs.declared.message.Send.{Send}
-use Rattle.base_messages.specs.declared.message.Delegate.{Delegate}
-use Rattle.base_messages.specs.declared.message.Undelegate.{Undelegate}
-use Rattle.base_messages.specs.declared.message.BeginRedelegate.{BeginRedelegate}
-use Rattle.base_messages.specs.declared.message.WithdrawReward.{WithdrawReward}
-use Rattle.base_messages.specs.declared.message.WithdrawCommission.{WithdrawCommission}
+use Rattle.base_coins.specs.{declared.coin.Coin.Coin, Coins.Money, Steps.{◌>>=◌}}
+use Rattle.base_messages.specs.declared.{faults.LineFault.LineFault, message.{Send.Send, Delegate.Delegate}}
+use Rattle.base_messages.specs.declared.message.{Undelegate.Undelegate, BeginRedelegate.BeginRedelegate}
+use Rattle.base_messages.specs.declared.message.{WithdrawReward.WithdrawReward, WithdrawCommission.WithdrawCommission}
 use Rattle.base_messages.specs.declared.message.Msg.{Msg}
 use Rattle.base_messages.specs.declared.message.Msg.TheVariants as msg
 use Rattle.line_json.specs.Addresses.{account_in, account_prefix, account_text_in, cons_in, cons_prefix, cons_text, operator_in, operator_prefix, operator_text, user_in, user_text}
-use Rattle.line_json.specs.Coin.{coin_of, coins_at, money_of}
-use Rattle.line_json.specs.Members.{amount_of, number_in, spelled_by}
+use Rattle.line_json.specs.{Coin.{coin_of, coins_at, money_of}, Members.{amount_of, number_in, spelled_by}}
 use Rattle.line_json.specs.Messages.{begin_redelegate_of, delegate_of, kind_of, message_of, send_of, undelegate_of, withdraw_commission_of, withdraw_reward_of}
 use Rattle.line_json.specs.Nested.{list_at}
 use Rattle.line_json.specs.Values.{account_data, coin_data, coins_data, cons_data, count_data, operator_data, user_data, whole_data}
 use Rattle.line_json.proofs.BackLemmas.{IsBack, amount_is_read, array_back, back_deeper, bytes_back, bytes_text_is_utf8, denom_is_read, elements_back, list_read, member_read, no_more, object_back, one_more, operator_back, read_four, read_one, read_three, read_two, string_back, user_back}
 use Rattle.line_json.proofs.TextLemmas.{denom_is_utf8}
-use Rattle.std.proofs.lemmas.Fmt.{IsAscii-decimal_wide}
-use Rattle.std.proofs.lemmas.Str.{IsUtf8-from_ascii}
 use Rattle.json.proofs.Printed.Utf8.{are_ascii, IsUtf8-are_ascii}
-use Rattle.run_generated.specs.Input.{address, coin, coins, signer, uatom}
-use Rattle.run_generated.specs.Lines.{message_data, one_coin}
+use Rattle.run_generated.specs.{Input.{address, coin, coins, signer, uatom}, Lines.{message_data, one_coin}}
 
 -- ---- addresses
 

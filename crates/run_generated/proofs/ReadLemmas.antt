@@ -1,45 +1,28 @@
 -- The lines of the generated input are read as its genesis and its blocks.
-use Rattle.std.specs.Prelude.{if◌then◌else◌, flat_map}
+use Rattle.std.proofs.Common.{if◌then◌else◌, flat_map, ◌≡◌, ℕ, suc, ◌+◌, ◌-◌, ◌*◌, ◌/◌, ◌%◌, ◌^◌, ◌<◌, ◌≤◌, ◌==◌, Bool, true, false, not, List, [], ◌∷◌, map, Some, Result, Ok, codes, refl, ap, ◌∙◌, arith}
 use Rattle.std.specs.List.{AllByRecursion}
-use Rattle.std.proofs.Common.{◌≡◌, ℕ, suc, ◌+◌, ◌-◌, ◌*◌, ◌/◌, ◌%◌, ◌^◌, ◌<◌, ◌≤◌, ◌==◌, Bool, true, false, not, List, [], ◌∷◌, map, Some, Result, Ok, codes, refl, ap, ◌∙◌, arith}
-use Rattle.serde_json.specs.Data.{Data, boolean}
-use Rattle.serde_json.specs.Find.{as_bool}
-use Rattle.serde_json.specs.Read.{max_depth}
-use Rattle.serde_json.specs.Written.{compact_text}
-use Rattle.base_decimals.specs.Texts.{dec_of}
-use Rattle.base_decimals.proofs.Inverse.{written_read}
+use Rattle.serde_json.specs.{Data.{Data, boolean}, Find.as_bool, Read.max_depth, Written.compact_text}
+use Rattle.base_decimals.{specs.Texts.dec_of, proofs.Inverse.written_read}
 use Rattle.base_types.specs.declared.account.Account.TheVariants as account
-use Rattle.base_types.specs.Calendar.{end_of_time}
-use Rattle.base_types.specs.Moment.{moment_of, moment_text}
+use Rattle.base_types.specs.{Calendar.end_of_time, Moment.{moment_of, moment_text}}
 use Rattle.base_types.proofs.MomentLemmas.{moment_of-moment_text}
 use Rattle.base_bech32.specs.declared.form.Form.{Form}
 use Rattle.base_coins.specs.Steps.{◌>>=◌}
-use Rattle.base_roles.specs.declared.messages.Evidence.{Evidence}
-use Rattle.base_roles.specs.declared.messages.Vote.{Vote}
-use Rattle.base_roles.specs.declared.params.Params.{Params}
-use Rattle.base_messages.specs.declared.block.Block.{Block}
-use Rattle.base_messages.specs.declared.block.Tx.{Tx}
-use Rattle.base_messages.specs.declared.faults.LineFault.{LineFault}
-use Rattle.base_messages.specs.declared.genesis.Genesis.{Genesis}
-use Rattle.base_messages.specs.declared.genesis.GenesisAccount.{GenesisAccount}
-use Rattle.base_messages.specs.declared.genesis.GenesisDelegation.{GenesisDelegation}
-use Rattle.base_messages.specs.declared.genesis.GenesisValidator.{GenesisValidator}
+use Rattle.base_roles.specs.declared.{messages.{Evidence.Evidence, Vote.Vote}, params.Params.Params}
+use Rattle.base_messages.specs.declared.{block.{Block.Block, Tx.Tx}, faults.LineFault.LineFault}
+use Rattle.base_messages.specs.declared.genesis.{Genesis.Genesis, GenesisAccount.GenesisAccount}
+use Rattle.base_messages.specs.declared.genesis.{GenesisDelegation.GenesisDelegation, GenesisValidator.GenesisValidator}
 use Rattle.base_messages.specs.declared.message.Msg.{Msg}
 use Rattle.line_json.specs.Addresses.{account_in, cons_in, operator_in, user_in}
 use Rattle.line_json.specs.Block.{block_of, block_of_tree, evidence_of, tx_of as tx_read_of, vote_of}
 use Rattle.line_json.specs.Genesis.{account_of_tree, delegation_of, genesis_of, genesis_of_tree, validator_of}
-use Rattle.line_json.specs.Lines.{lines_of}
-use Rattle.line_json.specs.Members.{amount_of, number_in, spelled_by}
-use Rattle.line_json.specs.Messages.{message_of as message_read_of}
-use Rattle.line_json.specs.Params.{params_of}
-use Rattle.line_json.specs.Reading.{tree_of}
+use Rattle.line_json.specs.{Lines.lines_of, Members.{amount_of, number_in, spelled_by}}
+use Rattle.line_json.specs.{Messages.{message_of as message_read_of}, Params.params_of, Reading.tree_of}
 use Rattle.line_json.specs.Values.{account_data, cons_data, count_data, decimal_data, moment_data, operator_data, user_data, whole_data}
 use Rattle.line_json.proofs.BackLemmas.{IsBack, amount_is_read, array_back, back_deeper, count_back, elements_back, flag_back, list_read, member_read, moment_text_is_utf8, next_is, no_more, object_back, one_more, read_five, read_four, read_one, read_six, read_three, read_two, string_back, tree_back}
-use Rattle.line_json.proofs.EndLemmas.{first_line}
-use Rattle.line_json.proofs.SpelledOnLiterals.{spelled_on_literals}
+use Rattle.line_json.proofs.{EndLemmas.first_line, SpelledOnLiterals.spelled_on_literals}
 use Rattle.line_json.proofs.TextLemmas.{dec_text_is_utf8, denom_is_utf8}
-use Rattle.run_generated.specs.declared.choices.Choices.{Choices}
-use Rattle.run_generated.specs.Drawing.{in_turn, next, numbers_from}
+use Rattle.run_generated.specs.{declared.choices.Choices.Choices, Drawing.{in_turn, next, numbers_from}}
 use Rattle.run_generated.specs.Input.{account_at, address, block_drawn, blocks_of, choices_drawn, coins, delegation_at, evidence_drawn, first_genesis, message_of, parameters, signer, time_at, tx_drawn, uatom, validator_at, vote_drawn}
 use Rattle.run_generated.specs.Lines.{block_data, block_line, delegation_data, evidence_data, genesis_data, holder_data, list_data, message_data, params_data, tx_data, validator_data, vote_data}
 use Rattle.run_generated.specs.Reading.{GeneratedIsRead, SpellInTurn}

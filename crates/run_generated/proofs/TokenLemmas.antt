@@ -2,19 +2,13 @@
 use Rattle.std.proofs.Common.{◌≡◌, ◌∙◌, ap, sym, refl, ℕ, List, [], ◌∷◌, ◌++◌, append_assoc, append-nil, codes}
 use Rattle.json.specs.Token.{Token, begin_object, end_object, key}
 use Rattle.serde_json.specs.Data.{Data, string, member, no_members}
-use Rattle.line_json.specs.Told.{data_tokens}
-use Rattle.line_json.specs.Values.{count_data, moment_data, user_data}
+use Rattle.line_json.specs.{Told.data_tokens, Values.{count_data, moment_data, user_data}}
 use Rattle.base_bech32.specs.declared.form.Form.{Form}
-use Rattle.base_roles.specs.declared.messages.Evidence.{Evidence}
-use Rattle.base_roles.specs.declared.messages.Vote.{Vote}
-use Rattle.base_messages.specs.declared.block.Block.{Block}
-use Rattle.base_messages.specs.declared.block.Tx.{Tx}
-use Rattle.base_messages.specs.declared.genesis.Genesis.{Genesis}
-use Rattle.base_messages.specs.declared.genesis.GenesisAccount.{GenesisAccount}
-use Rattle.base_messages.specs.declared.genesis.GenesisDelegation.{GenesisDelegation}
-use Rattle.base_messages.specs.declared.genesis.GenesisValidator.{GenesisValidator}
+use Rattle.base_roles.specs.declared.messages.{Evidence.Evidence, Vote.Vote}
+use Rattle.base_messages.specs.declared.{block.{Block.Block, Tx.Tx}, genesis.Genesis.Genesis}
+use Rattle.base_messages.specs.declared.genesis.{GenesisAccount.GenesisAccount, GenesisDelegation.GenesisDelegation}
+use Rattle.base_messages.specs.declared.{genesis.GenesisValidator.GenesisValidator, message.UpdateParams.UpdateParams}
 use Rattle.base_messages.specs.declared.message.Msg.TheVariants as msg
-use Rattle.base_messages.specs.declared.message.UpdateParams.{UpdateParams}
 use Rattle.run_generated.specs.Lines.{block_data, delegation_data, evidence_data, genesis_data, holder_data, list_data, member_tokens, message_data, params_data, tx_data, validator_data, vote_data}
 
 -- a part was written

@@ -1,12 +1,10 @@
 -- How what was written grows, line by line.
-use Rattle.std.proofs.Common.{◌≡◌, ◌∙◌, ap, sym, subst, refl, arith, ℕ, suc, ◌+◌, ◌-◌, ◌<◌, ◌≤◌, List, [], ◌∷◌, ◌++◌, map, append_assoc, append-nil, Option, Some}
-use Rattle.std.specs.Prelude.{IfSome, OnErr, OnOk, Result, Ok, Err, flat_map}
+use Rattle.std.proofs.Common.{◌≡◌, ◌∙◌, ap, sym, subst, refl, arith, ℕ, suc, ◌+◌, ◌-◌, ◌<◌, ◌≤◌, List, [], ◌∷◌, ◌++◌, map, append_assoc, append-nil, Option, Some, IfSome, OnErr, OnOk, Result, Ok, Err, flat_map}
 use Rattle.base_io.specs.Calls.{AddsPart, Stays}
-use Rattle.run_generated.specs.Input.{block_drawn, blocks_of, first_genesis}
-use Rattle.run_generated.specs.Lines.{block_line, genesis_line}
+use Rattle.run_generated.specs.{Input.{block_drawn, blocks_of, first_genesis}, Lines.{block_line, genesis_line}}
+use Rattle.run_generated.specs.Writing.{Grows, GrowsInPart, blocks_text, drawn_text, generated_text}
 use Rattle.base_bech32.specs.declared.form.Form.{Form}
 use Rattle.base_messages.specs.declared.block.Block.{Block}
-use Rattle.run_generated.specs.Writing.{Grows, GrowsInPart, blocks_text, drawn_text, generated_text}
 
 -- ---- texts
 

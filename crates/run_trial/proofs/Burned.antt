@@ -1,15 +1,12 @@
 -- What was burned of all denominations together is what was burned of one, where nothing was burned of any other.
-use Rattle.std.proofs.Common.{◌≡◌, ◌∙◌, ap, refl, sym, arith, ℕ, ◌+◌, List, [], ◌∷◌, ◌++◌, map}
-use Rattle.std.specs.Prelude.{sum, sum_by}
-use Rattle.std.specs.declared.cmp.Ordering.TheVariants.{Less, Equal, Greater}
+use Rattle.std.proofs.Common.{◌≡◌, ◌∙◌, ap, refl, sym, arith, ℕ, ◌+◌, List, [], ◌∷◌, ◌++◌, map, sum, sum_by, Less, Equal, Greater}
 use Rattle.std.proofs.lemmas.List.Sums.{sum_by-append, sum_by-cons}
 use Rattle.base_types.specs.Orders.{denom_cmp}
 use Rattle.base_coins.proofs.Amounts.{itself}
 use Rattle.base_coins.proofs.Order.{amount-first, amount-first_greater, amount-first_less, by_order, greater_back, less_back}
 use Rattle.base_roles.specs.declared.facts.Fact.{Fact}
 use Rattle.base_roles.specs.declared.facts.Fact.TheVariants as fact
-use Rattle.base_messages.specs.declared.report.BlockReport.{BlockReport}
-use Rattle.base_messages.specs.declared.report.TxReport.{TxReport}
+use Rattle.base_messages.specs.declared.report.{BlockReport.BlockReport, TxReport.TxReport}
 use Rattle.rule_machine.specs.Promises.{facts_of}
 use Rattle.rule_modules.specs.Laws.{burned_in as burned_of, burned_in_fact}
 use Rattle.run_trial.specs.Summary.{burned_amount, burned_by, burned_in}

@@ -1,15 +1,10 @@
 -- The generated input is input: its coins are lists of coins, and no condition keeps its genesis from starting a chain.
-use Rattle.std.proofs.Common.{◌≡◌, refl, arith, ℕ, ◌+◌, ◌/◌, ◌%◌, ◌^◌, ◌<◌, ◌≤◌, ◌==◌, Bool, true, false, [], ◌∷◌, length, None}
-use Rattle.std.specs.Prelude.{if◌then◌else◌, All}
+use Rattle.std.proofs.Common.{◌≡◌, refl, arith, ℕ, ◌+◌, ◌/◌, ◌%◌, ◌^◌, ◌<◌, ◌≤◌, ◌==◌, Bool, true, false, [], ◌∷◌, length, None, if◌then◌else◌, All}
 use Rattle.std.proofs.lemmas.List.Elements.{All-cons, All-nil}
-use Rattle.base_coins.specs.Coins.{IsMoney}
-use Rattle.base_coins.proofs.Order.{money_from_rises}
-use Rattle.base_messages.specs.declared.block.Block.{Block}
-use Rattle.base_messages.specs.declared.message.Msg.{Msg}
-use Rattle.rule_machine.specs.GenesisConditions.{start_condition}
-use Rattle.rule_machine.specs.Promises.{AreInput, MessageHasCoins, TxHasCoins}
-use Rattle.run_generated.specs.declared.choices.Choices.{Choices}
-use Rattle.run_generated.specs.Drawing.{next, numbers_from}
+use Rattle.base_coins.{specs.Coins.IsMoney, proofs.Order.money_from_rises}
+use Rattle.base_messages.specs.declared.{block.Block.Block, message.Msg.Msg}
+use Rattle.rule_machine.specs.{GenesisConditions.start_condition, Promises.{AreInput, MessageHasCoins, TxHasCoins}}
+use Rattle.run_generated.specs.{declared.choices.Choices.Choices, Drawing.{next, numbers_from}}
 use Rattle.run_generated.specs.Input.{block_drawn, blocks_of, choices_drawn, coins, first_genesis, message_of, tx_drawn, tx_of, uatom}
 use Rattle.run_generated.proofs.EachLemmas.{each_so, so_many, txs_so}
 use Rattle.run_trial.specs.Generated.{GeneratedIsInput}

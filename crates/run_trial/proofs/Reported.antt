@@ -1,15 +1,9 @@
 -- What runs report: no more blocks than there were, each with the transactions that the block has.
-use Rattle.std.proofs.Common.{◌≡◌, ap, refl, arith, ℕ, suc, ◌+◌, ◌*◌, ◌≤◌, Bool, true, false, cond, List, [], ◌∷◌, length, Result, Ok, Err}
-use Rattle.std.specs.Prelude.{IfOk, count_by, not, sum_by}
-use Rattle.std.specs.List.{AllByRecursion}
-use Rattle.std.proofs.lemmas.List.Sums.{sum_by-cons}
-use Rattle.base_messages.specs.declared.block.Block.{Block}
-use Rattle.base_messages.specs.declared.block.Tx.{Tx}
-use Rattle.base_messages.specs.declared.faults.BlockFault.{BlockFault}
-use Rattle.base_messages.specs.declared.faults.BlockFault.TheVariants.{RatioLimit}
-use Rattle.base_messages.specs.declared.report.BlockReport.{BlockReport}
-use Rattle.rule_modules.specs.Chain.{State, begin_block, end_block}
-use Rattle.rule_modules.specs.Laws.{next_block}
+use Rattle.std.proofs.Common.{◌≡◌, ap, refl, arith, ℕ, suc, ◌+◌, ◌*◌, ◌≤◌, Bool, true, false, cond, List, [], ◌∷◌, length, Result, Ok, Err, IfOk, count_by, not, sum_by}
+use Rattle.std.{specs.List.AllByRecursion, proofs.lemmas.List.Sums.sum_by-cons}
+use Rattle.base_messages.specs.declared.{block.{Block.Block, Tx.Tx}, faults.BlockFault.BlockFault}
+use Rattle.base_messages.specs.declared.{faults.BlockFault.TheVariants.RatioLimit, report.BlockReport.BlockReport}
+use Rattle.rule_modules.specs.{Chain.{State, begin_block, end_block}, Laws.next_block}
 use Rattle.rule_modules.proofs.GoingLemmas.{on_lifted, on_next}
 use Rattle.rule_machine.specs.GenesisState.{without_facts}
 use Rattle.rule_machine.specs.Machine.{Step, block_checked, going_on, run_of, step, tx_applied, txs_applied}

@@ -1,26 +1,19 @@
 -- Behind the reports of a run over generated blocks there is room for the counts of each next one: a block has at most three
 -- transactions, and no more is burned than there was.
-use Rattle.std.proofs.Common.{◌≡◌, ◌∙◌, ap, refl, arith, ℕ, ◌+◌, ◌*◌, ◌<◌, ◌≤◌, List, [], ◌∷◌, ◌++◌, length, length-append, Ok}
-use Rattle.std.specs.Prelude.{sum_by}
+use Rattle.std.proofs.Common.{◌≡◌, ◌∙◌, ap, refl, arith, ℕ, ◌+◌, ◌*◌, ◌<◌, ◌≤◌, List, [], ◌∷◌, ◌++◌, length, length-append, Ok, sum_by}
 use Rattle.std.proofs.lemmas.List.Sums.{sum_by-append, sum_by-cons}
 use Rattle.base_types.specs.Orders.{denom_cmp}
-use Rattle.base_coins.specs.Coins.{amount_of}
-use Rattle.base_coins.proofs.Amounts.{itself}
+use Rattle.base_coins.{specs.Coins.amount_of, proofs.Amounts.itself}
 use Rattle.base_coins.proofs.Order.{amount-first, amount-first_greater, amount-first_less, by_order}
 use Rattle.base_roles.specs.Holdings.{supply_of}
-use Rattle.base_messages.specs.declared.block.Block.{Block}
-use Rattle.base_messages.specs.declared.report.BlockReport.{BlockReport}
-use Rattle.rule_machine.specs.GenesisState.{Start, chain_started}
-use Rattle.rule_machine.specs.Machine.{run_of}
-use Rattle.law_soundness.proofs.Starting.{supplies_fall_by_burns}
-use Rattle.law_soundness.proofs.Steps.{from_if}
+use Rattle.base_messages.specs.declared.{block.Block.Block, report.BlockReport.BlockReport}
+use Rattle.rule_machine.specs.{GenesisState.{Start, chain_started}, Machine.run_of}
+use Rattle.law_soundness.proofs.{Starting.supplies_fall_by_burns, Steps.from_if}
 use Rattle.run_generated.specs.Drawing.{in_turn, numbers_from}
 use Rattle.run_generated.specs.Input.{block_drawn, blocks_of, first_genesis, tx_drawn, uatom}
-use Rattle.run_trial.specs.Summary.{accepted_in, burned_in, refused_in}
-use Rattle.run_trial.specs.Generated.{CountsHaveRoom}
-use Rattle.run_trial.proofs.Burned.{IsNothingBut, all_burned, burned_of_all}
 use Rattle.run_generated.proofs.EachLemmas.{each_in_turn, so_many, txs_so}
-use Rattle.run_trial.proofs.Inputs.{generated_is_input}
+use Rattle.run_trial.specs.{Summary.{accepted_in, burned_in, refused_in}, Generated.CountsHaveRoom}
+use Rattle.run_trial.proofs.{Burned.{IsNothingBut, all_burned, burned_of_all}, Inputs.generated_is_input}
 use Rattle.run_trial.proofs.Reported.{HasFew, blocks_reported, few_reported, three_each}
 
 -- ---- what was burned

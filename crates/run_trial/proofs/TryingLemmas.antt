@@ -1,19 +1,13 @@
 -- How a trial goes on, block by block.
-use Rattle.std.proofs.Common.{◌≡◌, ◌∙◌, ap, sym, subst, refl, arith, ℕ, suc, ◌+◌, ◌-◌, ◌<◌, ◌≤◌, List, [], ◌∷◌, ◌++◌, length, length-append, append_assoc, append-nil, Some, None, Result, Ok, Err}
-use Rattle.std.specs.Prelude.{sum_by}
+use Rattle.std.proofs.Common.{◌≡◌, ◌∙◌, ap, sym, subst, refl, arith, ℕ, suc, ◌+◌, ◌-◌, ◌<◌, ◌≤◌, List, [], ◌∷◌, ◌++◌, length, length-append, append_assoc, append-nil, Some, None, Result, Ok, Err, sum_by}
 use Rattle.std.proofs.lemmas.List.Sums.{sum_by-append, sum_by-cons}
-use Rattle.base_roles.specs.declared.facts.Fact.{Fact}
-use Rattle.base_messages.specs.declared.block.Block.{Block}
-use Rattle.base_coins.specs.Coins.{Money}
-use Rattle.base_roles.specs.declared.refusal.Refusal.{Refusal}
-use Rattle.base_roles.specs.Flow.{◌>>=◌}
-use Rattle.base_messages.specs.declared.faults.BlockFault.{BlockFault}
-use Rattle.base_messages.specs.declared.faults.BlockFault.TheVariants as why
-use Rattle.base_messages.specs.declared.genesis.Genesis.{Genesis}
+use Rattle.base_roles.specs.{declared.{facts.Fact.Fact, refusal.Refusal.Refusal}, Flow.{◌>>=◌}}
+use Rattle.base_messages.specs.declared.{block.Block.Block, faults.BlockFault.BlockFault, genesis.Genesis.Genesis}
 use Rattle.base_messages.specs.declared.report.BlockReport.{BlockReport}
+use Rattle.base_coins.specs.Coins.{Money}
+use Rattle.base_messages.specs.declared.faults.BlockFault.TheVariants as why
 use Rattle.rule_modules.specs.Chain.{State, shared_in}
-use Rattle.rule_machine.specs.GenesisState.{Start, chain_started}
-use Rattle.rule_machine.specs.Machine.{Run, Step, going_on, run_of, step}
+use Rattle.rule_machine.specs.{GenesisState.{Start, chain_started}, Machine.{Run, Step, going_on, run_of, step}}
 use Rattle.chain_modules.specs.Kept.{KeptState, StandsFor}
 use Rattle.chain_blocks.specs.Answers.{AnswersStep}
 use Rattle.chain_whole.specs.Answers.{Starts}
@@ -21,10 +15,10 @@ use Rattle.line_json.specs.Line.{line_of}
 use Rattle.run_generated.specs.Input.{block_drawn, blocks_of, first_genesis}
 use Rattle.run_trial.specs.declared.counts.Counts.{Counts}
 use Rattle.run_trial.specs.Summary.{HasRoom, Stopped, accepted_in, burned_in, counted, counts_of, outcome_by, refused_in, run_outcome, summary_data}
-use Rattle.run_trial.proofs.Room.{counts_have_room}
 use Rattle.run_trial.specs.declared.fault.TrialFault.{TrialFault}
-use Rattle.run_trial.specs.declared.fault.TrialFault.TheVariants as trial
 use Rattle.run_trial.specs.Trying.{AddsStep, EndsSo, HasRoomFor, IsFaultOf, IsOnTheWay, IsTrialFault, IsStarted, StopsSo, behind_reports, drawn_run, stopped_at}
+use Rattle.run_trial.proofs.Room.{counts_have_room}
+use Rattle.run_trial.specs.declared.fault.TrialFault.TheVariants as trial
 
 -- ---- a block
 

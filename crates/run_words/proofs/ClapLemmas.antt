@@ -1,17 +1,12 @@
 -- What `clap` makes of at most six words, of which none begins with a hyphen.
-use Rattle.std.proofs.Common.{◌≡◌, ◌∙◌, ap, refl, ℕ, suc, ◌≤◌, ◌==◌, ◌||◌, Bool, true, false, true≢false, List, [], ◌∷◌, length, map, None, Option, slice_get, codes, bytes_eq, arith, String, Global, string_bytes}
-use Rattle.std.specs.Prelude.{◌&&◌}
-use Rattle.std.specs.List.{fold, list_all, list_any}
-use Rattle.clap.specs.Lexer.{strip_byte}
-use Rattle.clap.specs.Matches.{first_value}
-use Rattle.clap.specs.Simple.{App, Shape, built, is_simple, matches_of}
+use Rattle.std.proofs.Common.{◌≡◌, ◌∙◌, ap, refl, ℕ, suc, ◌≤◌, ◌==◌, ◌||◌, Bool, true, false, true≢false, List, [], ◌∷◌, length, map, None, Option, slice_get, codes, bytes_eq, arith, String, Global, string_bytes, ◌&&◌, fold}
+use Rattle.std.specs.List.{list_all, list_any}
+use Rattle.clap.specs.{Lexer.strip_byte, Matches.first_value, Simple.{App, Shape, built, is_simple, matches_of}}
 use Rattle.clap.specs.Takes.{default_passes, is_valid, settle_passes, step_passes, takes, turn_passes, walk_passes}
 use Rattle.clap.specs.Walk.{Held, Rule, Walk, arg_by_index, finished, first_of, idle, nothing_held, rows_of, to_positional, value, walked}
-use Rattle.clap.specs.declared.parser.matches.Found.{Found}
-use Rattle.clap.proofs.OnLiterals.{clap_on_literals}
+use Rattle.clap.{specs.declared.parser.matches.Found.Found, proofs.OnLiterals.clap_on_literals}
 use Rattle.clap.proofs.WalkLemmas.{first_value-rows}
-use Rattle.run_words.specs.Line.{six}
-use Rattle.run_words.specs.Words.{is_option}
+use Rattle.run_words.specs.{Line.six, Words.is_option}
 
 pub six_is_simple : is_simple six ≡ true
 unfolding clap_on_literals

@@ -1,10 +1,8 @@
 -- What `parse` gives for digits.
-use Rattle.std.proofs.Common.{◌≡◌, ℕ, List, true, Result, Ok, ◌≤◌, ◌<◌, length, nat_lt, nat_le, ◌&&◌, arith, rules}
-use Rattle.std.specs.Str.Parse.{ParsesUnsigned, digits_value}
-use Rattle.std.specs.Char.{is_ascii_digit}
-use Rattle.std.specs.List.{list_all}
+use Rattle.std.proofs.Common.{◌≡◌, ℕ, List, true, Result, Ok, ◌≤◌, ◌<◌, length, nat_lt, nat_le, ◌&&◌, arith, rules, leb-true}
+use Rattle.std.specs.{Str.Parse.{ParsesUnsigned, digits_value}, Char.is_ascii_digit, List.list_all}
 use Rattle.std.proofs.lemmas.Str.Parse.{IsNumeralModel, numerals_by_value, parse_gives, digits_value_short}
-use Rattle.std.proofs.lemmas.Bool.{and_parts, leb-true}
+use Rattle.std.proofs.lemmas.Bool.{and_parts}
 use Rattle.base_decimals.specs.Texts.{is_number}
 
 are_digits_model : IsNumeralModel (λ digits. list_all is_ascii_digit digits ≡ true) (digits_value 10)

@@ -1,19 +1,15 @@
 -- The words that are no command, and the command by what stands at the places.
-use Rattle.std.proofs.Common.{◌≡◌, ◌∙◌, ◌⊎◌, inl, inr, refl, ap, sym, ℕ, suc, ◌<◌, ◌≤◌, ◌&&◌, ◌||◌, Bool, true, false, true≢false, cond, List, [], ◌∷◌, map, length, Option, Some, None, slice_get, bytes_eq, codes, arith, String, Global, string_bytes}
-use Rattle.std.specs.Prelude.{◌==◌, option_and_then, option_map}
+use Rattle.std.proofs.Common.{◌≡◌, ◌∙◌, ◌⊎◌, inl, inr, refl, ap, sym, ℕ, suc, ◌<◌, ◌≤◌, ◌&&◌, ◌||◌, Bool, true, false, true≢false, cond, List, [], ◌∷◌, map, length, Option, Some, None, slice_get, bytes_eq, codes, arith, String, Global, string_bytes, ◌==◌, option_and_then, option_map}
 use Rattle.std.specs.List.{list_any}
 use Rattle.base_decimals.specs.Texts.{is_number, number_of}
-use Rattle.run_words.specs.declared.mode.Mode.{Mode}
-use Rattle.run_words.specs.declared.mode.Mode.TheVariants as mode
-use Rattle.base_bech32.specs.declared.form.Form.{Form}
-use Rattle.base_bech32.specs.declared.form.Form.TheVariants.{Hex, Bech32}
-use Rattle.base_types.specs.Accounts.{account_from}
-use Rattle.base_types.specs.Address.{address_of, bytes_of}
-use Rattle.line_json.specs.Addresses.{account_in, bytes_in, cons_in, operator_asked}
-use Rattle.line_report.specs.declared.question.Query.TheVariants as question
-use Rattle.run_words.specs.Questions.{address_asked, kind_asked, of_account}
+use Rattle.run_words.specs.{declared.mode.Mode.Mode, Questions.{address_asked, kind_asked, of_account}}
 use Rattle.run_words.specs.Words.{asking, at_height, behind_form, command_at, command_of, count_of, generating, height_of, is_bech32, is_keep, is_option, is_past, keeping, kept_mode, mode_of, past_of, plain, seed_of, with_input, with_word}
 use Rattle.run_words.proofs.ClapLemmas.{any_of_texts}
+use Rattle.run_words.specs.declared.mode.Mode.TheVariants as mode
+use Rattle.base_bech32.specs.declared.form.Form.{Form, TheVariants.{Hex, Bech32}}
+use Rattle.base_types.specs.{Accounts.account_from, Address.{address_of, bytes_of}}
+use Rattle.line_json.specs.Addresses.{account_in, bytes_in, cons_in, operator_asked}
+use Rattle.line_report.specs.declared.question.Query.TheVariants as question
 
 both_none : {A : Type 0} (b : Bool) (x y : Option A) → x ≡ None → y ≡ None → cond b x y ≡ None
 both_none true x y p q = p

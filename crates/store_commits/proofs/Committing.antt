@@ -1,28 +1,18 @@
 -- What a commit brings a keeper to.
-use Rattle.std.proofs.Common.{◌≡◌, ◌≢◌, ℕ, ◌<◌, ◌∙◌, ◌⊎◌, length, arith, inl, inr, Bool, true, false, true≢false, List, [], ◌∷◌, map, Option, Some, None, Result, Ok, Err, IfSome, refl, sym, ap, subst}
-use Rattle.std.specs.Prelude.{All, Contains, IsSome, OnErr, OnOk, ⊤}
-use Rattle.std.specs.List.{AllByRecursion}
-use Rattle.std.proofs.lemmas.List.Elements.{All-contains, All-from_recursion}
-use Rattle.base_io.specs.declared.keeper.Change.{Change}
-use Rattle.base_io.specs.declared.keeper.Row.{Row}
-use Rattle.base_io.specs.declared.keeper.KeepFault.{KeepFault}
-use Rattle.base_io.specs.declared.keeper.KeepFault.TheVariants as fault
-use Rattle.base_io.specs.Rows.{Makes, Pair}
+use Rattle.std.proofs.Common.{◌≡◌, ◌≢◌, ℕ, ◌<◌, ◌∙◌, ◌⊎◌, length, arith, inl, inr, Bool, true, false, true≢false, List, [], ◌∷◌, map, Option, Some, None, Result, Ok, Err, IfSome, refl, sym, ap, subst, All, Contains, IsSome, OnErr, OnOk}
+use Rattle.std.{specs.{Prelude.⊤, List.AllByRecursion}, proofs.lemmas.List.Elements.{All-contains, All-from_recursion}}
+use Rattle.base_io.specs.{declared.keeper.{Change.Change, Row.Row, KeepFault.KeepFault}, Rows.{Makes, Pair}}
 use Rattle.base_io.specs.Changes.{ChangeRows, ChangesRows, IsOrdinary, LeavesRows, changed, pair_of}
-use Rattle.base_roles.specs.declared.items.Item.{Item}
+use Rattle.base_io.specs.declared.keeper.KeepFault.TheVariants as fault
+use Rattle.base_roles.specs.{declared.items.Item.Item, Items.{AreChanges, IsOnce, key_of}}
 use Rattle.base_roles.specs.declared.items.Item.TheVariants as item
-use Rattle.base_roles.specs.Items.{AreChanges, IsOnce, key_of}
 use Rattle.rule_machine.specs.Items.{items_of}
-use Rattle.store_rows.specs.Spelled.{HasRow, IsWritable}
-use Rattle.store_rows.proofs.KeyLemmas.{key_in_range}
-use Rattle.base_records.proofs.KindLemmas.{once-told}
-use Rattle.base_records.proofs.MemberLemmas.{Member, Once, contained, member, once}
+use Rattle.store_rows.{specs.Spelled.{HasRow, IsWritable}, proofs.KeyLemmas.key_in_range}
+use Rattle.base_records.proofs.{KindLemmas.once-told, MemberLemmas.{Member, Once, contained, member, once}}
 use Rattle.store_items.specs.Stored.{AreStored, HaveOwnKeys, rows_in}
 use Rattle.store_items.specs.Making.{AreMade, CanBeWritten, HasKeyInRange, HasNewHead, HasRowIfPut, change_seen, item_change, item_put}
 use Rattle.rule_modules.specs.Chain.{State}
-use Rattle.store_commits.specs.Commits.{Commits, Holds, IsCommit, LeadTo}
-use Rattle.store_commits.specs.Held.{HasRisen}
-use Rattle.store_commits.proofs.Ranges.{has_row}
+use Rattle.store_commits.{specs.{Commits.{Commits, Holds, IsCommit, LeadTo}, Held.HasRisen}, proofs.Ranges.has_row}
 
 -- ---- items that are stored
 

@@ -1,29 +1,15 @@
 -- What is said of the ranges of an item's values can be told by tests: so where it is not refuted, it holds.
-use Rattle.std.proofs.Common.{◌≡◌, ◌∙◌, ℕ, ◌^◌, ◌<◌, Bool, true, false, true≢false, nat_lt, List, [], ◌∷◌, length, Option, Some, None, refl, sym, inl, inr}
-use Rattle.std.specs.Prelude.{All}
-use Rattle.std.specs.List.{AllByRecursion}
-use Rattle.std.specs.List.Sorted.{IsStrictlySortedBy}
-use Rattle.std.specs.Map.{keys_of}
-use Rattle.std.proofs.lemmas.Bool.{lt-ltb, ltb-true}
-use Rattle.std.proofs.lemmas.Bool.Decides.{eqb_tells}
-use Rattle.std.proofs.lemmas.List.Elements.{All-from_recursion, recursion_from_All}
-use Rattle.std.specs.declared.cmp.Ordering.{Ordering}
-use Rattle.std.specs.declared.cmp.Ordering.TheVariants.{Less, Equal, Greater}
-use Rattle.base_types.specs.declared.account.Account.{Account}
-use Rattle.base_types.specs.declared.account.Account.TheVariants as account
-use Rattle.base_types.specs.Address.{IsAddress}
-use Rattle.base_types.specs.Denom.{is_denom}
-use Rattle.base_types.specs.Modules.{module_of}
+use Rattle.std.proofs.Common.{◌≡◌, ◌∙◌, ℕ, ◌^◌, ◌<◌, Bool, true, false, true≢false, nat_lt, List, [], ◌∷◌, length, Option, Some, None, refl, sym, inl, inr, All, lt-ltb, ltb-true, Ordering, Less, Equal, Greater}
+use Rattle.std.specs.{List.{AllByRecursion, Sorted.IsStrictlySortedBy}, Map.keys_of}
+use Rattle.std.proofs.lemmas.{Bool.Decides.eqb_tells, List.Elements.{All-from_recursion, recursion_from_All}}
+use Rattle.base_types.specs.{declared.account.Account.Account, Address.IsAddress, Denom.is_denom, Modules.module_of}
 use Rattle.base_types.specs.Orders.{denom_cmp}
+use Rattle.base_types.specs.declared.account.Account.TheVariants as account
 use Rattle.base_coins.specs.Coins.{IsMoney, Money}
-use Rattle.base_roles.specs.declared.entities.Commission.{Commission}
-use Rattle.base_roles.specs.declared.entities.RedelegationEntry.{RedelegationEntry}
-use Rattle.base_roles.specs.declared.entities.SigningInfo.{SigningInfo}
-use Rattle.base_roles.specs.declared.entities.UnbondingEntry.{UnbondingEntry}
-use Rattle.base_roles.specs.declared.entities.Validator.{Validator}
-use Rattle.base_roles.specs.declared.items.Item.{Item}
+use Rattle.base_roles.specs.declared.entities.{Commission.Commission, RedelegationEntry.RedelegationEntry}
+use Rattle.base_roles.specs.declared.entities.{SigningInfo.SigningInfo, UnbondingEntry.UnbondingEntry}
+use Rattle.base_roles.specs.declared.{entities.Validator.Validator, items.Item.Item, params.Params.Params}
 use Rattle.base_roles.specs.declared.items.Item.TheVariants as item
-use Rattle.base_roles.specs.declared.params.Params.{Params}
 use Rattle.store_rows.specs.Spelled.{AreCoins, AreParams, HasRow, IsAccount, IsCommission, IsInRange, IsInfo, IsName, IsRedelegation, IsUnbonding, IsUser, IsValidator, IsWritable}
 
 -- what is not refuted holds

@@ -1,12 +1,7 @@
 -- What changes make of rows, and the changes of a commit with those of the history.
-use Rattle.std.proofs.Common.{◌≡◌, ◌∙◌, ◌⊎◌, inl, inr, ℕ, ◌^◌, ◌<◌, Bool, true, false, not, List, [], ◌∷◌, ◌++◌, filter, map, Option, Some, None, Ordering, Less, Equal, Greater, is_eq, refl, sym, ap, subst}
-use Rattle.std.specs.Prelude.{if◌then◌else◌, is_some, unwrap_or, ◌==◌}
-use Rattle.std.specs.Option.{option_or}
-use Rattle.std.specs.List.{AllByRecursion}
-use Rattle.std.proofs.lemmas.Bool.{cases_Bool}
-use Rattle.base_io.specs.Rows.{Pair, key_cmp}
-use Rattle.base_io.specs.Changes.{Rises, value_of}
-use Rattle.base_io.proofs.RowLemmas.{put_rises, remove_rises}
+use Rattle.std.proofs.Common.{◌≡◌, ◌∙◌, ◌⊎◌, inl, inr, ℕ, ◌^◌, ◌<◌, Bool, true, false, not, List, [], ◌∷◌, ◌++◌, filter, map, Option, Some, None, Ordering, Less, Equal, Greater, is_eq, refl, sym, ap, subst, if◌then◌else◌, is_some, unwrap_or, ◌==◌}
+use Rattle.std.{specs.{Option.option_or, List.AllByRecursion}, proofs.lemmas.Bool.cases_Bool}
+use Rattle.base_io.{specs.{Rows.{Pair, key_cmp}, Changes.{Rises, value_of}}, proofs.RowLemmas.{put_rises, remove_rises}}
 use Rattle.store_history.specs.History.{base_key, eight_bytes, is_visible, kept_key, kept_name, kept_value, stored_base}
 use Rattle.store_history.specs.Commits.{Seen, anew, change_at, going_on, is_base, is_kept, made, made_by, note, put_base, removal}
 use Rattle.store_history.proofs.MapLemmas.{all_pass, all_weaker, at_filter, at_put, filter_rises, itself, off_filter, off_put, passed, same_or_other, tie, tied, value_first}

@@ -1,12 +1,9 @@
 -- What the form of a history says of its rows, and rows that are of it.
-use Rattle.std.proofs.Common.{◌≡◌, ◌∙◌, ℕ, ◌^◌, ◌<◌, ◌≤◌, true, List, length, Option, Some, None, refl, sym, ap, ap₂, subst, arith}
-use Rattle.std.specs.Prelude.{if◌then◌else◌, option_and_then, unwrap_or, IfSome, IsSomeAnd, ◌==◌}
+use Rattle.std.proofs.Common.{◌≡◌, ◌∙◌, ℕ, ◌^◌, ◌<◌, ◌≤◌, true, List, length, Option, Some, None, refl, sym, ap, ap₂, subst, arith, if◌then◌else◌, option_and_then, unwrap_or, IfSome, IsSomeAnd, ◌==◌}
 use Rattle.std.specs.Option.{option_flatten}
-use Rattle.base_io.specs.Rows.{Pair}
-use Rattle.base_io.specs.Changes.{Rises, value_of}
+use Rattle.base_io.specs.{Rows.Pair, Changes.{Rises, value_of}}
 use Rattle.store_history.specs.History.{Begins, IsBase, IsFormed, IsHead, IsHistory, IsKept, base_in, base_key, eight_bytes, head_key, height_in, is_visible, kept_height, kept_key, kept_value, last_of, number_at, number_in, stored_base, was}
-use Rattle.store_history.specs.Commits.{Seen, change_at, height_of}
-use Rattle.store_history.proofs.MapLemmas.{all_at_value, all_from_values}
+use Rattle.store_history.{specs.Commits.{Seen, change_at, height_of}, proofs.MapLemmas.{all_at_value, all_from_values}}
 use Rattle.store_history.proofs.KeyLemmas.{eight_long, height_back, name_back, number_back}
 
 pub was_back : (o : Option (List ℕ)) → was (kept_value o) ≡ o

@@ -1,16 +1,11 @@
 -- What a keeper over a keeper tells, and what is left of the rows of the other.
-use Rattle.std.proofs.Common.{◌≡◌, ◌∙◌, ◌⊎◌, inl, inr, ℕ, List, [], ◌∷◌, map, Option, Some, None, Ok, Err, Result, refl, sym, ap, ap₂, subst}
-use Rattle.std.specs.Prelude.{if◌then◌else◌, unwrap_or, Bool, ◌^◌, ◌<◌, IfOk, IfSome, IsSome, IsSomeAnd, OnErr, OnOk}
-use Rattle.base_io.specs.declared.keeper.Change.{Change}
-use Rattle.base_io.specs.declared.keeper.KeepFault.{KeepFault}
-use Rattle.base_io.specs.Changes.{ChangeRows, IsOrdinary, LeavesRows, Rises, changed}
-use Rattle.base_io.specs.Rows.{Makes, Pair}
+use Rattle.std.proofs.Common.{◌≡◌, ◌∙◌, ◌⊎◌, inl, inr, ℕ, List, [], ◌∷◌, map, Option, Some, None, Ok, Err, Result, refl, sym, ap, ap₂, subst, if◌then◌else◌, unwrap_or, Bool, ◌^◌, ◌<◌, IfOk, IfSome, IsSome, IsSomeAnd, OnErr, OnOk}
+use Rattle.base_io.specs.declared.keeper.{Change.Change, KeepFault.KeepFault}
+use Rattle.base_io.specs.{Changes.{ChangeRows, IsOrdinary, LeavesRows, Rises, changed}, Rows.{Makes, Pair}}
 use Rattle.store_history.specs.History.{IsHistory, is_visible, last_of, stored_base, visible}
 use Rattle.store_history.specs.Commits.{IsCommit, anew, committed, height_of, made, seen}
 use Rattle.store_history.specs.Held.{Became, CommitsTo, HaveBecome, Knows, ShowsLeft, base_after, shown}
-use Rattle.store_history.proofs.MapLemmas.{filter_rises}
-use Rattle.store_history.proofs.LeftLemmas.{new_leaves, on_leaves}
-use Rattle.store_history.proofs.ListLemmas.{shown_last}
+use Rattle.store_history.proofs.{MapLemmas.filter_rises, LeftLemmas.{new_leaves, on_leaves}, ListLemmas.shown_last}
 use Rattle.store_history.proofs.TakenLemmas.{Taken, begins_anew, begins_first, goes_on, keeps_history, lower_or_not, taken}
 
 -- ---- what is told before and after

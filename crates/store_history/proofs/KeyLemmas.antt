@@ -1,17 +1,9 @@
 -- Keys of the rows of a history.
-use Rattle.std.proofs.Common.{◌≡◌, ◌∙◌, inl, inr, ℕ, zero, suc, ◌/◌, ◌%◌, ◌^◌, ◌<◌, true, false, List, [], ◌∷◌, ◌++◌, drop, length, take, refl, sym, ap, ap₂, arith}
-use Rattle.std.specs.Prelude.{◌==◌}
-use Rattle.std.specs.Int.{byte_at, bytes_high_first}
-use Rattle.std.specs.declared.cmp.Ordering.{Ordering}
-use Rattle.std.specs.declared.cmp.Ordering.TheVariants.{Less, Equal, Greater}
-use Rattle.std.specs.Ordering.{MatchOrdering, nat_cmp, ordering_then}
-use Rattle.std.specs.Cmp.{nat_cmp_is}
-use Rattle.std.proofs.lemmas.Cmp.{ranked}
-use Rattle.std.proofs.lemmas.Nat.{from_be_bytes-to_be_bytes_8}
-use Rattle.std.proofs.Math.Nat.{div-div-eq-div-mul, pow-suc}
+use Rattle.std.proofs.Common.{◌≡◌, ◌∙◌, inl, inr, ℕ, zero, suc, ◌/◌, ◌%◌, ◌^◌, ◌<◌, true, false, List, [], ◌∷◌, ◌++◌, drop, length, take, refl, sym, ap, ap₂, arith, ◌==◌, Ordering, Less, Equal, Greater, nat_cmp}
+use Rattle.std.specs.{Int.{byte_at, bytes_high_first}, Ordering.{MatchOrdering, ordering_then}, Cmp.nat_cmp_is}
+use Rattle.std.proofs.{lemmas.{Cmp.ranked, Nat.from_be_bytes-to_be_bytes_8}, Math.Nat.{div-div-eq-div-mul, pow-suc}}
 use Rattle.std.proofs.lemmas.Bool.{cases_Bool}
-use Rattle.base_io.specs.Changes.{IsReserved}
-use Rattle.base_io.specs.Rows.{key_cmp}
+use Rattle.base_io.specs.{Changes.IsReserved, Rows.key_cmp}
 use Rattle.store_history.specs.History.{Begins, eight_bytes, is_visible, kept_height, kept_key, kept_name, number_in}
 use Rattle.store_history.specs.Commits.{is_kept}
 

@@ -1,8 +1,6 @@
 -- What a commit leaves: one that goes on, and one that begins anew.
-use Rattle.std.proofs.Common.{◌≡◌, ◌∙◌, ◌⊎◌, inl, inr, ℕ, ◌^◌, ◌<◌, ◌≤◌, Bool, true, false, List, [], ◌∷◌, length, map, Option, Some, None, refl, sym, ap, ap₂, subst, arith}
-use Rattle.std.specs.Prelude.{is_some, option_and_then, unwrap_or, ◌==◌}
-use Rattle.base_io.specs.Rows.{Pair}
-use Rattle.base_io.specs.Changes.{Rises, value_of}
+use Rattle.std.proofs.Common.{◌≡◌, ◌∙◌, ◌⊎◌, inl, inr, ℕ, ◌^◌, ◌<◌, ◌≤◌, Bool, true, false, List, [], ◌∷◌, length, map, Option, Some, None, refl, sym, ap, ap₂, subst, arith, is_some, option_and_then, unwrap_or, ◌==◌}
+use Rattle.base_io.specs.{Rows.Pair, Changes.{Rises, value_of}}
 use Rattle.store_history.specs.History.{Begins, IsHistory, IsKept, base_in, base_key, base_of, eight_bytes, kept_value, last_of, stored_base}
 use Rattle.store_history.specs.Commits.{Seen, anew, change_at, going_on, height_of, is_base, made, note}
 use Rattle.store_history.proofs.MapLemmas.{same_or_other, some_same}

@@ -1,19 +1,15 @@
 -- The list of changes that is committed: its keys are distinct, each change changes the rows, and it makes of them what a commit makes.
-use Rattle.std.proofs.Common.{◌≡◌, ◌∙◌, ℕ, zero, suc, length, take, Less, ◌^◌, ◌<◌, ◌≤◌, Bool, true, false, List, [], ◌∷◌, ◌++◌, ◌+◌, append_assoc, drop, filter, get_or, is_eq, map, Option, Some, None, refl, sym, ap, ap₂, subst, arith}
-use Rattle.std.specs.Prelude.{is_some, nat_lt, if◌then◌else◌, option_and_then, slice_index_or, Contains, IfSome, IsSome, ◌==◌}
-use Rattle.std.specs.Option.{option_flatten}
-use Rattle.std.specs.List.{AllByRecursion}
-use Rattle.base_io.specs.declared.keeper.Row.{Row}
-use Rattle.base_io.specs.declared.keeper.Change.{Change}
-use Rattle.base_io.specs.declared.keeper.Change.TheVariants as change
+use Rattle.std.proofs.Common.{◌≡◌, ◌∙◌, ℕ, zero, suc, length, take, Less, ◌^◌, ◌<◌, ◌≤◌, Bool, true, false, List, [], ◌∷◌, ◌++◌, ◌+◌, append_assoc, drop, filter, get_or, is_eq, map, Option, Some, None, refl, sym, ap, ap₂, subst, arith, is_some, nat_lt, if◌then◌else◌, option_and_then, slice_index_or, Contains, IfSome, IsSome, ◌==◌}
+use Rattle.std.specs.{Option.option_flatten, List.AllByRecursion}
+use Rattle.base_io.specs.declared.keeper.{Row.Row, Change.Change}
 use Rattle.base_io.specs.Changes.{ChangesRows, IsOrdinary, IsPutOfHead, Rises, changed, pair_of, value_of}
 use Rattle.base_io.specs.Rows.{HasDistinctKeys, Pair, key_cmp}
+use Rattle.base_io.specs.declared.keeper.Change.TheVariants as change
 use Rattle.store_history.specs.History.{IsHistory, base_in, head_key, height_in, is_visible, kept_key, kept_value, last_of, number_in, stored_base, visible}
 use Rattle.store_history.specs.Commits.{Seen, anew, change_at, committed, going_on, height_of, is_base, is_kept, made, note, put_base, removal, seen}
 use Rattle.store_history.proofs.MapLemmas.{all_pass, at_filter, filter_rises, passed, value_first}
 use Rattle.store_history.proofs.ChangeLemmas.{AreDistinct, AreVisible, all_append, change_first, change_later, none_changed, parts_anew_distinct, parts_on_distinct}
-use Rattle.store_history.proofs.FormLemmas.{base_back, last_small, none_above}
-use Rattle.store_history.proofs.ReadingLemmas.{drop_end, row_next}
+use Rattle.store_history.proofs.{FormLemmas.{base_back, last_small, none_above}, ReadingLemmas.{drop_end, row_next}}
 use Rattle.store_history.proofs.TakenLemmas.{begins_anew, begins_first, changed_seen, distinct_seen, free_seen, goes_on, seen_distinct}
 
 -- the change changes the rows

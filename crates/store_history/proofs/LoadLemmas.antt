@@ -1,17 +1,10 @@
 -- What is loaded from a keeper.
-use Rattle.std.proofs.Common.{◌≡◌, ◌∙◌, ℕ, List, [], Option, Some, None, Ok, Err, Result, sym, ap, subst}
-use Rattle.std.specs.Prelude.{IfOk, IfSome, IsErrOf}
-use Rattle.base_io.specs.declared.keeper.KeepFault.{KeepFault}
+use Rattle.std.proofs.Common.{◌≡◌, ◌∙◌, ℕ, List, [], Option, Some, None, Ok, Err, Result, sym, ap, subst, IfOk, IfSome, IsErrOf}
+use Rattle.base_io.specs.{declared.keeper.KeepFault.KeepFault, Keeping.UnlessLost, Rows.Pair, Changes.Rises}
 use Rattle.base_io.specs.declared.keeper.KeepFault.TheVariants as keep
-use Rattle.base_io.specs.Keeping.{UnlessLost}
-use Rattle.base_io.specs.Rows.{Pair}
-use Rattle.base_io.specs.Changes.{Rises}
-use Rattle.store_history.specs.declared.history.History.{History}
-use Rattle.store_history.specs.declared.loading.OpenFault.{OpenFault}
-use Rattle.store_history.specs.declared.loading.OpenFault.TheVariants.{BadHistory, Failed, NoMemory}
-use Rattle.store_history.specs.Held.{Knows}
-use Rattle.store_history.specs.History.{IsHistory, stored_base, visible}
-use Rattle.store_history.specs.Opened.{OnLoaded, UnlessFailed, open_fault}
+use Rattle.store_history.specs.declared.{history.History.History, loading.OpenFault.OpenFault}
+use Rattle.store_history.specs.{declared.loading.OpenFault.TheVariants.{BadHistory, Failed, NoMemory}, Held.Knows}
+use Rattle.store_history.specs.{History.{IsHistory, stored_base, visible}, Opened.{OnLoaded, UnlessFailed, open_fault}}
 
 pub told_visible : (told : Option (List Pair)) (xs ys : List Pair) → IfSome told (λ p. xs ≡ p) → ys ≡ visible xs → IfSome told (λ p. ys ≡ visible p)
 told_visible None xs ys same is = tt

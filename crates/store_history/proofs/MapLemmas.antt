@@ -1,13 +1,8 @@
 -- Values in finite maps, as lists of pairs whose keys rise.
 use Rattle.std.proofs.Common.{◌≡◌, ◌∙◌, ℕ, Bool, true, false, List, [], ◌∷◌, filter, Option, Some, None, Ordering, Less, Equal, Greater, ◌⊎◌, inl, inr, refl, sym, ap, ap₂, subst}
-use Rattle.std.specs.List.{AllByRecursion}
-use Rattle.std.specs.Ordering.{match_ordering, ordering_reverse}
-use Rattle.std.proofs.lemmas.Bool.{cases_Bool}
-use Rattle.std.proofs.lemmas.Cmp.{tied_itself}
-use Rattle.std.proofs.lemmas.Map.Lookups.{exact_bytes}
-use Rattle.base_io.specs.Rows.{Pair, key_cmp, put}
-use Rattle.base_io.specs.Changes.{Rises, value_of}
-use Rattle.base_io.proofs.RowLemmas.{put_rises, total}
+use Rattle.std.{specs.{List.AllByRecursion, Ordering.{match_ordering, ordering_reverse}}, proofs.lemmas.Bool.cases_Bool}
+use Rattle.std.proofs.lemmas.{Cmp.tied_itself, Map.Lookups.exact_bytes}
+use Rattle.base_io.{specs.{Rows.{Pair, key_cmp, put}, Changes.{Rises, value_of}}, proofs.RowLemmas.{put_rises, total}}
 
 -- ---- keys
 

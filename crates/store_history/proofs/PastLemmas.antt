@@ -1,20 +1,14 @@
 -- Past values stand through commits.
-use Rattle.std.proofs.Common.{◌≡◌, ◌∙◌, inl, inr, ℕ, zero, suc, ◌+◌, ◌-◌, ◌^◌, ◌<◌, ◌≤◌, Bool, true, false, List, [], ◌∷◌, map, Option, Some, None, refl, sym, ap, ap₂, subst, arith}
-use Rattle.std.specs.Prelude.{nat_lt, if◌then◌else◌, unwrap_or, MatchOption}
-use Rattle.std.specs.List.{AllByRecursion}
-use Rattle.std.proofs.lemmas.Bool.{cases_Bool}
-use Rattle.base_io.specs.declared.keeper.Change.{Change}
-use Rattle.base_io.specs.Rows.{Pair}
-use Rattle.base_io.specs.Changes.{Rises, value_of}
+use Rattle.std.proofs.Common.{◌≡◌, ◌∙◌, inl, inr, ℕ, zero, suc, ◌+◌, ◌-◌, ◌^◌, ◌<◌, ◌≤◌, Bool, true, false, List, [], ◌∷◌, map, Option, Some, None, refl, sym, ap, ap₂, subst, arith, nat_lt, if◌then◌else◌, unwrap_or, MatchOption}
+use Rattle.std.{specs.List.AllByRecursion, proofs.lemmas.Bool.cases_Bool}
+use Rattle.base_io.specs.{declared.keeper.Change.Change, Rows.Pair, Changes.{Rises, value_of}}
 use Rattle.store_history.specs.History.{ArePast, IsHistory, base_of, is_visible, kept_height, kept_key, kept_or, last_of, past_value, stored_base, value_before, visible}
 use Rattle.store_history.specs.Commits.{AreCommits, PastIsOne, PastIsWhatStood, Seen, after, change_at, going_on, height_of, is_at_most, last_at, made, seen}
 use Rattle.store_history.proofs.MapLemmas.{all_at_value, at_filter, filter_rises, off_filter, same_values}
 use Rattle.store_history.proofs.KeyLemmas.{height_back}
 use Rattle.store_history.proofs.ChangeLemmas.{AreDistinct, AreVisible, noted, note_other, on_kept, on_noted, on_seen}
-use Rattle.store_history.proofs.FormLemmas.{none_above, was_back}
-use Rattle.store_history.proofs.LeftLemmas.{new_leaves, on_leaves, on_value}
-use Rattle.store_history.proofs.TakenLemmas.{Kind, Taken, kind_of, leaves, lower_or_not, taken}
-use Rattle.store_history.proofs.TakenLemmas.Kind.{Goes, Anew}
+use Rattle.store_history.proofs.{FormLemmas.{none_above, was_back}, LeftLemmas.{new_leaves, on_leaves, on_value}}
+use Rattle.store_history.proofs.TakenLemmas.{Kind, Taken, kind_of, leaves, lower_or_not, taken, Kind.{Goes, Anew}}
 
 -- ---- walks over heights
 

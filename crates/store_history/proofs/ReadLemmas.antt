@@ -1,19 +1,10 @@
 -- Bytes that are read.
-use Rattle.std.proofs.Common.{◌≡◌, ◌∙◌, ℕ, zero, suc, ◌+◌, ◌^◌, ◌<◌, ◌≤◌, Bool, true, false, List, [], ◌∷◌, ◌++◌, drop, filter, get_or, inl, inr, length, map, take, Option, Some, None, refl, sym, ap, ap₂, subst, arith}
-use Rattle.std.specs.Prelude.{if◌then◌else◌, nat_lt, IfSome, IsSomeAnd, MatchOption}
-use Rattle.std.specs.Int.{w64, from_be_bytes}
-use Rattle.std.specs.List.{AllByRecursion}
-use Rattle.std.proofs.lemmas.Bool.{cases_Bool}
-use Rattle.std.proofs.lemmas.Nat.{be_bytes_8}
-use Rattle.std.proofs.lemmas.List.{length-append, take-append-drop}
-use Rattle.base_io.specs.declared.keeper.Row.{Row}
-use Rattle.base_io.specs.Rows.{Pair}
-use Rattle.base_io.specs.Changes.{Rises, pair_of, value_of}
+use Rattle.std.proofs.Common.{◌≡◌, ◌∙◌, ℕ, zero, suc, ◌+◌, ◌^◌, ◌<◌, ◌≤◌, Bool, true, false, List, [], ◌∷◌, ◌++◌, drop, filter, get_or, inl, inr, length, map, take, Option, Some, None, refl, sym, ap, ap₂, subst, arith, if◌then◌else◌, nat_lt, IfSome, IsSomeAnd, MatchOption, w64, length-append, take-append-drop}
+use Rattle.std.{specs.{Int.from_be_bytes, List.AllByRecursion}, proofs.lemmas.{Bool.cases_Bool, Nat.be_bytes_8}}
+use Rattle.base_io.specs.{declared.keeper.Row.Row, Rows.Pair, Changes.{Rises, pair_of, value_of}}
 use Rattle.store_history.specs.History.{IsFormed, IsHead, IsHistory, IsKept, eight_bytes, head_key, is_visible, kept_height, kept_key, kept_name, kept_value, last_of, number_at, number_in, stored_base, visible, was}
-use Rattle.store_history.proofs.MapLemmas.{at_filter}
-use Rattle.store_history.proofs.KeyLemmas.{eight_long, height_back, name_back}
-use Rattle.store_history.proofs.FormLemmas.{was_back}
-use Rattle.store_history.proofs.ListLemmas.{shown_last}
+use Rattle.store_history.proofs.{MapLemmas.at_filter, KeyLemmas.{eight_long, height_back, name_back}}
+use Rattle.store_history.proofs.{FormLemmas.was_back, ListLemmas.shown_last}
 
 pub number_found : (bytes front : List ℕ) (n : ℕ) → front ≡ take 8 bytes → 8 ≤ length bytes → n ≡ from_be_bytes w64 front → Some n ≡ number_at bytes
 unfolding number_in

@@ -1,14 +1,8 @@
 -- What is read of rows, one after the other.
-use Rattle.std.proofs.Common.{◌≡◌, ◌∙◌, inl, inr, ℕ, zero, suc, ◌+◌, ◌<◌, ◌≤◌, Bool, true, false, List, [], ◌∷◌, drop, filter, get_or, length, map, Option, Some, None, Less, Equal, Greater, is_eq, refl, sym, ap, subst, arith}
-use Rattle.std.specs.Ordering.{match_ordering}
-use Rattle.std.specs.Prelude.{if◌then◌else◌, option_and_then, option_map, unwrap_or}
-use Rattle.std.specs.List.{AllByRecursion}
-use Rattle.std.proofs.lemmas.Bool.{cases_Bool}
-use Rattle.base_io.specs.declared.keeper.Row.{Row}
-use Rattle.base_io.specs.Rows.{Pair, key_cmp, put}
-use Rattle.base_io.specs.Changes.{Rises, value_of}
-use Rattle.store_history.specs.History.{base_in, base_key, stored_base}
-use Rattle.store_history.specs.Commits.{Seen, change_at, is_kept, made}
+use Rattle.std.proofs.Common.{◌≡◌, ◌∙◌, inl, inr, ℕ, zero, suc, ◌+◌, ◌<◌, ◌≤◌, Bool, true, false, List, [], ◌∷◌, drop, filter, get_or, length, map, Option, Some, None, Less, Equal, Greater, is_eq, refl, sym, ap, subst, arith, if◌then◌else◌, option_and_then, option_map, unwrap_or}
+use Rattle.std.{specs.{Ordering.match_ordering, List.AllByRecursion}, proofs.lemmas.Bool.cases_Bool}
+use Rattle.base_io.specs.{declared.keeper.Row.Row, Rows.{Pair, key_cmp, put}, Changes.{Rises, value_of}}
+use Rattle.store_history.specs.{History.{base_in, base_key, stored_base}, Commits.{Seen, change_at, is_kept, made}}
 use Rattle.store_history.specs.Held.{base_with, kept_with}
 use Rattle.store_history.proofs.MapLemmas.{filter_rises, none_below, passed, same_or_other, same_values, tie, tied, value_first}
 use Rattle.store_history.proofs.ChangeLemmas.{AreDistinct, change_first, change_later, made_rises, value_made}

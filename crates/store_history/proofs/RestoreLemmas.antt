@@ -1,15 +1,9 @@
 -- One row that is gone back over.
-use Rattle.std.proofs.Common.{◌≡◌, ◌∙◌, ℕ, zero, suc, ◌+◌, ◌^◌, ◌<◌, ◌≤◌, Bool, true, false, List, [], ◌∷◌, drop, get_or, length, map, Option, Some, None, inl, inr, refl, sym, ap, ap₂, subst, arith}
-use Rattle.std.specs.Prelude.{◌&&◌, nat_lt, if◌then◌else◌}
-use Rattle.std.specs.List.{AllByRecursion}
-use Rattle.std.proofs.lemmas.Bool.{cases_Bool}
-use Rattle.base_io.specs.declared.keeper.Row.{Row}
-use Rattle.base_io.specs.Rows.{Pair}
-use Rattle.base_io.specs.Changes.{pair_of}
-use Rattle.store_history.specs.History.{kept_height, kept_key, kept_name, was}
-use Rattle.store_history.specs.Commits.{is_kept, made_by}
-use Rattle.store_history.specs.Held.{IsWhole, restored, undone}
-use Rattle.store_history.proofs.KeyLemmas.{height_back, name_back}
+use Rattle.std.proofs.Common.{◌≡◌, ◌∙◌, ℕ, zero, suc, ◌+◌, ◌^◌, ◌<◌, ◌≤◌, Bool, true, false, List, [], ◌∷◌, drop, get_or, length, map, Option, Some, None, inl, inr, refl, sym, ap, ap₂, subst, arith, ◌&&◌, nat_lt, if◌then◌else◌}
+use Rattle.std.{specs.List.AllByRecursion, proofs.lemmas.Bool.cases_Bool}
+use Rattle.base_io.specs.{declared.keeper.Row.Row, Rows.Pair, Changes.pair_of}
+use Rattle.store_history.specs.{History.{kept_height, kept_key, kept_name, was}, Commits.{is_kept, made_by}}
+use Rattle.store_history.{specs.Held.{IsWhole, restored, undone}, proofs.KeyLemmas.{height_back, name_back}}
 use Rattle.store_history.proofs.ReadingLemmas.{row_next}
 
 pub was_none : (value rest : List ℕ) (tag : ℕ) → value ≡ tag ∷ rest → tag ≡ 0 → None ≡ was value

@@ -1,20 +1,15 @@
 -- Commits that every keeper takes, and what each leaves.
-use Rattle.std.proofs.Common.{◌≡◌, ◌∙◌, ◌⊎◌, inl, inr, ℕ, ◌^◌, ◌<◌, ◌≤◌, Bool, true, false, List, [], ◌∷◌, map, Option, Some, None, refl, sym, ap, subst, arith}
-use Rattle.std.specs.Prelude.{nat_lt, if◌then◌else◌, unwrap_or, IsSomeAnd}
-use Rattle.std.specs.List.{AllByRecursion}
-use Rattle.std.proofs.lemmas.Bool.{cases_Bool, ltb-true}
-use Rattle.base_io.specs.declared.keeper.Change.{Change}
-use Rattle.base_io.specs.declared.keeper.Change.TheVariants as change
-use Rattle.base_io.specs.Rows.{HasDistinctKeys, Pair}
+use Rattle.std.proofs.Common.{◌≡◌, ◌∙◌, ◌⊎◌, inl, inr, ℕ, ◌^◌, ◌<◌, ◌≤◌, Bool, true, false, List, [], ◌∷◌, map, Option, Some, None, refl, sym, ap, subst, arith, nat_lt, if◌then◌else◌, unwrap_or, IsSomeAnd, ltb-true}
+use Rattle.std.{specs.List.AllByRecursion, proofs.lemmas.Bool.cases_Bool}
+use Rattle.base_io.specs.{declared.keeper.Change.Change, Rows.{HasDistinctKeys, Pair}}
 use Rattle.base_io.specs.Changes.{IsReserved, Rises, changed, value_of}
+use Rattle.base_io.specs.declared.keeper.Change.TheVariants as change
 use Rattle.base_io.specs.Rows as rows
 use Rattle.store_history.specs.History.{IsHistory, base_of, is_visible, last_of, visible}
 use Rattle.store_history.specs.Commits.{CommitsKeepHistory, IsCommit, Seen, anew, change_at, changes_at, changes_from, committed, going_on, height_of, made, seen}
-use Rattle.store_history.proofs.MapLemmas.{at_filter, filter_rises, off_filter, same_values}
-use Rattle.store_history.proofs.KeyLemmas.{free_is_seen}
+use Rattle.store_history.proofs.{MapLemmas.{at_filter, filter_rises, off_filter, same_values}, KeyLemmas.free_is_seen}
 use Rattle.store_history.proofs.ChangeLemmas.{AreDistinct, AreVisible, hidden_unchanged, made_rises, value_made}
-use Rattle.store_history.proofs.FormLemmas.{Leaves}
-use Rattle.store_history.proofs.LeftLemmas.{new_leaves, on_leaves}
+use Rattle.store_history.proofs.{FormLemmas.Leaves, LeftLemmas.{new_leaves, on_leaves}}
 
 pub seen_key : (c : Change) → (seen c).0 ≡ rows.key_of c
 seen_key (change.Put row) = refl

@@ -1,17 +1,10 @@
 -- The answers of what asks for past rows.
-use Rattle.std.proofs.Common.{◌≡◌, ◌∙◌, ◌⊎◌, ℕ, ◌<◌, ◌≤◌, List, map, Option, Some, None, Ok, Err, sym, ap, subst}
-use Rattle.std.specs.Prelude.{Vec, unwrap_or}
-use Rattle.std.specs.declared.alloc.Global.{Global}
-use Rattle.std.specs.List.{AllByRecursion}
-use Rattle.base_io.specs.declared.keeper.Row.{Row}
-use Rattle.base_io.specs.Rows.{Pair}
-use Rattle.base_io.specs.Changes.{Rises, pair_of}
-use Rattle.store_history.specs.declared.going_back.PastFault.TheVariants.{BadHistory, NoPast}
-use Rattle.store_history.specs.Answers.{Tells}
-use Rattle.store_history.specs.Held.{IsWhole, undone}
-use Rattle.store_history.specs.History.{ArePast, IsHistory, last_of, stored_base, visible}
-use Rattle.store_history.proofs.ListLemmas.{shown_last}
-use Rattle.store_history.proofs.UndoLemmas.{are_past, formed_whole}
+use Rattle.std.proofs.Common.{◌≡◌, ◌∙◌, ◌⊎◌, ℕ, ◌<◌, ◌≤◌, List, map, Option, Some, None, Ok, Err, sym, ap, subst, Vec, unwrap_or}
+use Rattle.std.specs.{declared.alloc.Global.Global, List.AllByRecursion}
+use Rattle.base_io.specs.{declared.keeper.Row.Row, Rows.Pair, Changes.{Rises, pair_of}}
+use Rattle.store_history.specs.{declared.going_back.PastFault.TheVariants.{BadHistory, NoPast}, Answers.Tells}
+use Rattle.store_history.specs.{Held.{IsWhole, undone}, History.{ArePast, IsHistory, last_of, stored_base, visible}}
+use Rattle.store_history.proofs.{ListLemmas.shown_last, UndoLemmas.{are_past, formed_whole}}
 
 -- the last height, and the base, as they are known
 last_at : (rows vis : List Pair) (last : Option ℕ) → Rises rows → vis ≡ visible rows → last ≡ last_of vis → last_of rows ≡ last

@@ -1,16 +1,10 @@
 -- An ordered map of bytes as a list of pairs.
-use Rattle.std.proofs.Common.{◌≡◌, ◌∙◌, ℕ, Bool, not, List, [], ◌∷◌, map, Option, Some, None, Ordering, Less, Equal, Greater, is_eq, refl, sym, ap, ap₂, subst}
-use Rattle.std.specs.Prelude.{Vec, option_map, cond, Result, Ok, Err, IfOk, OnErr, OnOk}
-use Rattle.std.specs.declared.alloc.Global.{Global}
-use Rattle.std.specs.BTreeMap.{insert_entry, is_at}
-use Rattle.std.specs.Map.{lookup, remove_entry}
-use Rattle.std.specs.List.{AllByRecursion}
-use Rattle.std.specs.Ordering.{match_ordering}
-use Rattle.base_io.specs.Rows.{Pair, key_cmp, put}
-use Rattle.base_io.specs.Changes.{Rises, pair_of, remove, value_of}
+use Rattle.std.proofs.Common.{◌≡◌, ◌∙◌, ℕ, Bool, not, List, [], ◌∷◌, map, Option, Some, None, Ordering, Less, Equal, Greater, is_eq, refl, sym, ap, ap₂, subst, Vec, option_map, cond, Result, Ok, Err, IfOk, OnErr, OnOk}
+use Rattle.std.specs.{declared.alloc.Global.Global, BTreeMap.{insert_entry, is_at}, Map.{lookup, remove_entry}}
+use Rattle.std.specs.{List.AllByRecursion, Ordering.match_ordering}
+use Rattle.base_io.specs.{Rows.{Pair, key_cmp, put}, Changes.{Rises, pair_of, remove, value_of}}
 use Rattle.base_io.proofs.RowLemmas.{put_rises, remove_rises}
-use Rattle.store_history.specs.Held.{row_in}
-use Rattle.store_history.proofs.MapLemmas.{above_all, flip, flop, none_below, tied}
+use Rattle.store_history.{specs.Held.row_in, proofs.MapLemmas.{above_all, flip, flop, none_below, tied}}
 
 abbrev pub Entry : Type 0
 Entry = Vec ℕ Global × Vec ℕ Global

@@ -1,17 +1,12 @@
 -- Going back over the rows of a history gives the past rows.
-use Rattle.std.proofs.Common.{◌≡◌, ◌∙◌, ◌⊎◌, inl, inr, ℕ, zero, suc, ◌+◌, ◌-◌, ◌^◌, ◌<◌, ◌≤◌, Bool, true, false, List, [], ◌∷◌, Option, Some, None, Less, Equal, refl, sym, ap, ap₂, subst, arith}
-use Rattle.std.specs.Prelude.{◌&&◌, nat_lt, if◌then◌else◌, unwrap_or}
-use Rattle.std.specs.List.{AllByRecursion}
-use Rattle.std.proofs.lemmas.Bool.{cases_Bool, ltb-true}
-use Rattle.base_io.specs.Rows.{Pair, key_cmp}
-use Rattle.base_io.specs.Changes.{Rises, value_of}
+use Rattle.std.proofs.Common.{◌≡◌, ◌∙◌, ◌⊎◌, inl, inr, ℕ, zero, suc, ◌+◌, ◌-◌, ◌^◌, ◌<◌, ◌≤◌, Bool, true, false, List, [], ◌∷◌, Option, Some, None, Less, Equal, refl, sym, ap, ap₂, subst, arith, ◌&&◌, nat_lt, if◌then◌else◌, unwrap_or, ltb-true}
+use Rattle.std.{specs.List.AllByRecursion, proofs.lemmas.Bool.cases_Bool}
+use Rattle.base_io.specs.{Rows.{Pair, key_cmp}, Changes.{Rises, value_of}}
 use Rattle.store_history.specs.History.{ArePast, IsFormed, IsHistory, is_visible, kept_height, kept_key, kept_name, kept_or, last_of, stored_base, value_before, visible, was}
-use Rattle.store_history.specs.Commits.{is_kept, made_by}
-use Rattle.store_history.specs.Held.{IsWhole, restored, undone}
+use Rattle.store_history.specs.{Commits.{is_kept, made_by}, Held.{IsWhole, restored, undone}}
 use Rattle.store_history.proofs.MapLemmas.{above_all, all_from_values, all_weaker, at_filter, filter_rises, none_below, off_filter, passed, same_or_other, tied, value_first}
 use Rattle.store_history.proofs.KeyLemmas.{height_back, heights_cmp, kept_begins, name_back}
-use Rattle.store_history.proofs.ChangeLemmas.{made_by_at, made_by_off, made_by_rises}
-use Rattle.store_history.proofs.FormLemmas.{last_small}
+use Rattle.store_history.proofs.{ChangeLemmas.{made_by_at, made_by_off, made_by_rises}, FormLemmas.last_small}
 
 -- a formed row that keeps something is whole
 pub formed_whole : (base last : Option ℕ) (rows : List Pair) → AllByRecursion (IsFormed base last) rows → AllByRecursion IsWhole rows

@@ -1,20 +1,11 @@
 -- Lists of items in which no key stands twice, side by side.
-use Rattle.std.proofs.Common.{◌≡◌, ◌∙◌, ℕ, ◌<◌, ◌≤◌, List, [], ◌∷◌, ◌++◌, map, Option, Some, None, refl, sym, ap, subst, arith, inl, inr}
-use Rattle.std.specs.Prelude.{◌⊎◌}
-use Rattle.std.specs.Cmp.{IsTotalOrder}
-use Rattle.std.specs.List.{AllByRecursion, filter_map, flat_map}
-use Rattle.std.specs.List.Sorted.{IsStrictlySortedBy}
-use Rattle.std.specs.Map.{keys_of}
-use Rattle.std.specs.declared.cmp.Ordering.{Ordering}
-use Rattle.std.specs.declared.cmp.Ordering.TheVariants.{Less}
+use Rattle.std.proofs.Common.{◌≡◌, ◌∙◌, ℕ, ◌<◌, ◌≤◌, List, [], ◌∷◌, ◌++◌, map, Option, Some, None, refl, sym, ap, subst, arith, inl, inr, ◌⊎◌, filter_map, flat_map, Ordering, Less}
+use Rattle.std.specs.{Cmp.IsTotalOrder, List.{AllByRecursion, Sorted.IsStrictlySortedBy}, Map.keys_of}
 use Rattle.std.proofs.lemmas.List.{map-append}
-use Rattle.base_roles.specs.declared.items.Item.{Item}
+use Rattle.base_roles.specs.{declared.items.Item.Item, Items.key_of}
 use Rattle.base_roles.specs.declared.items.Item.TheVariants as item
-use Rattle.base_roles.specs.Items.{key_of}
-use Rattle.store_rows.specs.Kinds.{prefix_of}
-use Rattle.store_rows.specs.Rows.{kind_in}
-use Rattle.base_records.proofs.AscendLemmas.{not_below}
-use Rattle.base_records.proofs.MemberLemmas.{Member, Once, member-cases, once-append}
+use Rattle.store_rows.specs.{Kinds.prefix_of, Rows.kind_in}
+use Rattle.base_records.proofs.{AscendLemmas.not_below, MemberLemmas.{Member, Once, member-cases, once-append}}
 
 -- ---- members of what lists are made to
 

@@ -1,23 +1,13 @@
 -- Rows in the order of their keys, and the items of which they are the rows in a format.
-use Rattle.std.proofs.Common.{◌≡◌, ◌∙◌, ◌⊎◌, inl, inr, ℕ, suc, ◌<◌, List, [], ◌∷◌, length, map, All, refl, sym, ap, subst, arith, Ordering, Less, Equal, Greater}
-use Rattle.std.specs.Prelude.{Contains, slice_get, Some}
-use Rattle.std.specs.List.{AllByRecursion}
-use Rattle.std.specs.List.Sorted.{IsPermutation}
-use Rattle.std.specs.Ordering.{match_ordering}
-use Rattle.std.proofs.lemmas.Cmp.{tied_itself}
+use Rattle.std.proofs.Common.{◌≡◌, ◌∙◌, ◌⊎◌, inl, inr, ℕ, suc, ◌<◌, List, [], ◌∷◌, length, map, All, refl, sym, ap, subst, arith, Ordering, Less, Equal, Greater, Contains, slice_get, Some, IsPermutation}
+use Rattle.std.{specs.{List.AllByRecursion, Ordering.match_ordering}, proofs.lemmas.Cmp.tied_itself}
 use Rattle.std.proofs.lemmas.List.Elements.{All-from_recursion, recursion_from_All}
 use Rattle.std.proofs.lemmas.List.Sorted.{Contains-permutation, IsPermutation-cons, IsPermutation-refl, IsPermutation-swap, IsPermutation-sym, IsPermutation-trans}
-use Rattle.sqlite_rules.specs.Lists.{Has}
-use Rattle.sqlite_rules.proofs.ListLemmas.{all_from, all_has}
-use Rattle.base_io.specs.Rows.{Pair, key_cmp, put}
-use Rattle.base_io.specs.Changes.{Rises}
-use Rattle.base_roles.specs.declared.items.Item.{Item}
-use Rattle.base_roles.specs.Items.{IsOnce}
-use Rattle.store_rows.specs.declared.format.Format.{Format}
-use Rattle.store_rows.specs.Rows.{key_bytes, row_in}
-use Rattle.store_rows.specs.Spelled.{HasRow}
-use Rattle.store_rows.proofs.KeyLemmas.{keys_one_to_one}
-use Rattle.store_rows.proofs.WholeLemmas.{key_alone, one_to_one}
+use Rattle.sqlite_rules.{specs.Lists.Has, proofs.ListLemmas.{all_from, all_has}}
+use Rattle.base_io.specs.{Rows.{Pair, key_cmp, put}, Changes.Rises}
+use Rattle.base_roles.specs.{declared.items.Item.Item, Items.IsOnce}
+use Rattle.store_rows.specs.{declared.format.Format.Format, Rows.{key_bytes, row_in}, Spelled.HasRow}
+use Rattle.store_rows.proofs.{KeyLemmas.keys_one_to_one, WholeLemmas.{key_alone, one_to_one}}
 use Rattle.store_sqlite.proofs.Maps.{same_members, total}
 use Rattle.store_items.specs.Stored.{AreStored, rows_as}
 use Rattle.store_items.proofs.Members.{AreOnce, has_map, has_of, item_there, map_has, place_of, row_there, rows_rise}

@@ -1,18 +1,11 @@
 -- Rows read, and changes written, one after the other.
-use Rattle.std.proofs.Common.{◌≡◌, ◌≢◌, ◌∙◌, ℕ, zero, suc, ◌+◌, ◌<◌, List, [], ◌∷◌, ◌++◌, length, get_or, take, map, All, Option, Some, Result, Err, inl, inr, refl, sym, ap, ap₂, subst, arith}
-use Rattle.std.specs.Prelude.{IsErrOf}
-use Rattle.std.specs.List.{AllByRecursion}
-use Rattle.std.proofs.lemmas.List.{map_more, map_push, take_more}
+use Rattle.std.proofs.Common.{◌≡◌, ◌≢◌, ◌∙◌, ℕ, zero, suc, ◌+◌, ◌<◌, List, [], ◌∷◌, ◌++◌, length, get_or, take, map, All, Option, Some, Result, Err, inl, inr, refl, sym, ap, ap₂, subst, arith, IsErrOf}
+use Rattle.std.{specs.List.AllByRecursion, proofs.lemmas.List.{map_more, map_push, take_more}}
 use Rattle.std.proofs.lemmas.List.Elements.{All-push, recursion_from_All}
 use Rattle.sqlite_rules.specs.Lists.{Has}
-use Rattle.base_io.specs.declared.keeper.Change.TheVariants.{Put}
-use Rattle.base_io.specs.declared.keeper.Row.{Row}
-use Rattle.base_io.specs.Rows.{Pair}
-use Rattle.base_io.specs.Changes.{pair_of}
+use Rattle.base_io.specs.{declared.keeper.{Change.TheVariants.Put, Row.Row}, Rows.Pair, Changes.pair_of}
 use Rattle.base_roles.specs.declared.items.Item.{Item}
-use Rattle.store_rows.specs.declared.fault.RowFault.{RowFault}
-use Rattle.store_rows.specs.declared.format.Format.{Format}
-use Rattle.store_rows.specs.Rows.{row_in, row_of}
+use Rattle.store_rows.specs.{declared.{fault.RowFault.RowFault, format.Format.Format}, Rows.{row_in, row_of}}
 use Rattle.store_rows.specs.Spelled.{HasRow}
 use Rattle.store_items.specs.Making.{change_seen, item_put}
 

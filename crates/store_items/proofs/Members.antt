@@ -1,14 +1,10 @@
 -- Members of lists, and the rows of items.
-use Rattle.std.proofs.Common.{◌≡◌, ◌∙◌, ◌⊎◌, inl, inr, ℕ, zero, suc, ◌<◌, List, [], ◌∷◌, length, map, refl, sym, ap, subst, arith, Ordering, Less, Equal, Greater}
-use Rattle.std.specs.Prelude.{Contains, slice_index_or}
-use Rattle.std.proofs.lemmas.Cmp.{tied_itself}
-use Rattle.std.proofs.lemmas.Map.Lookups.{exact_bytes}
+use Rattle.std.proofs.Common.{◌≡◌, ◌∙◌, ◌⊎◌, inl, inr, ℕ, zero, suc, ◌<◌, List, [], ◌∷◌, length, map, refl, sym, ap, subst, arith, Ordering, Less, Equal, Greater, Contains, slice_index_or}
+use Rattle.std.proofs.lemmas.{Cmp.tied_itself, Map.Lookups.exact_bytes}
 use Rattle.sqlite_rules.specs.Lists.{Has}
-use Rattle.base_io.specs.Rows.{Pair, key_cmp, put}
-use Rattle.base_io.specs.Changes.{Rises}
+use Rattle.base_io.specs.{Rows.{Pair, key_cmp, put}, Changes.Rises}
 use Rattle.base_roles.specs.declared.items.Item.{Item}
-use Rattle.store_rows.specs.declared.format.Format.{Format}
-use Rattle.store_rows.specs.Rows.{key_bytes, row_in}
+use Rattle.store_rows.specs.{declared.format.Format.Format, Rows.{key_bytes, row_in}}
 use Rattle.store_sqlite.proofs.Maps.{has_put, put_has, put_keeps, put_rises, total}
 use Rattle.store_items.specs.Stored.{rows_as}
 

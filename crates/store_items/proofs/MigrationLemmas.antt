@@ -1,39 +1,24 @@
 -- What the changes from the first format to the second make of rows.
-use Rattle.std.proofs.Common.{◌≡◌, ◌≢◌, ◌∙◌, ◌⊎◌, inl, inr, ℕ, ◌+◌, ◌<◌, ◌≤◌, Bool, true, false, not, cond, List, [], ◌∷◌, ◌++◌, length, get_or, take, map, All, Option, Some, Err, refl, sym, ap, ap₂, subst, arith, Ordering, Less, Equal, Greater}
-use Rattle.std.specs.Prelude.{IsErrOf}
-use Rattle.std.specs.Ordering.{is_eq, match_ordering}
-use Rattle.std.specs.List.{AllByRecursion, flat_map}
-use Rattle.std.proofs.lemmas.Cmp.{tied_itself}
-use Rattle.std.proofs.lemmas.List.{append-nil, length-map, map_push, take_all}
-use Rattle.std.proofs.lemmas.List.Concat.{flat_map-cons}
-use Rattle.std.proofs.lemmas.List.Elements.{recursion_from_All}
+use Rattle.std.proofs.Common.{◌≡◌, ◌≢◌, ◌∙◌, ◌⊎◌, inl, inr, ℕ, ◌+◌, ◌<◌, ◌≤◌, Bool, true, false, not, cond, List, [], ◌∷◌, ◌++◌, length, get_or, take, map, All, Option, Some, Err, refl, sym, ap, ap₂, subst, arith, Ordering, Less, Equal, Greater, IsErrOf, is_eq, flat_map, append-nil, take_all}
+use Rattle.std.{specs.{Ordering.match_ordering, List.AllByRecursion}, proofs.lemmas.Cmp.tied_itself}
+use Rattle.std.proofs.lemmas.List.{length-map, map_push, Concat.flat_map-cons, Elements.recursion_from_All}
 use Rattle.std.proofs.lemmas.Grind.{flat_map-append}
-use Rattle.sqlite_rules.specs.Lists.{Has}
-use Rattle.sqlite_rules.proofs.ListLemmas.{all_from, all_has}
-use Rattle.base_io.specs.declared.keeper.Change.{Change}
-use Rattle.base_io.specs.declared.keeper.Change.TheVariants as change
-use Rattle.base_io.specs.declared.keeper.Row.{Row}
-use Rattle.base_io.specs.Rows.{HasDistinctKeys, Pair, key_cmp, put}
-use Rattle.base_io.specs.Rows as rows
+use Rattle.sqlite_rules.{specs.Lists.Has, proofs.ListLemmas.{all_from, all_has}}
+use Rattle.base_io.specs.{declared.keeper.{Change.Change, Row.Row}, Rows.{HasDistinctKeys, Pair, key_cmp, put}}
 use Rattle.base_io.specs.Changes.{ChangesRows, IsOrdinary, IsPutOfHead, IsReserved, Rises, changed, pair_of, remove, value_of}
-use Rattle.base_roles.specs.declared.items.Item.{Item}
+use Rattle.base_io.specs.declared.keeper.Change.TheVariants as change
+use Rattle.base_io.specs.Rows as rows
+use Rattle.base_roles.specs.{declared.items.Item.Item, Items.key_of}
 use Rattle.base_roles.specs.declared.items.Item.TheVariants as item
-use Rattle.base_roles.specs.Items.{key_of}
-use Rattle.store_rows.specs.declared.fault.RowFault.{RowFault}
-use Rattle.store_rows.specs.declared.fault.RowFault.TheVariants.{BadRow, NoMemory}
-use Rattle.store_rows.specs.declared.format.Format.TheVariants.{First, Second}
-use Rattle.store_rows.specs.Fields.{eight_bytes, sixteen_bytes}
-use Rattle.store_rows.specs.Kinds.{prefix_of}
-use Rattle.store_rows.specs.Rows.{key_bytes, kind_in, row_in, value_in}
-use Rattle.store_rows.specs.Spelled.{HasRow}
+use Rattle.store_rows.specs.declared.fault.RowFault.{RowFault, TheVariants.{BadRow, NoMemory}}
+use Rattle.store_rows.specs.{declared.format.Format.TheVariants.{First, Second}, Fields.{eight_bytes, sixteen_bytes}}
+use Rattle.store_rows.specs.{Kinds.prefix_of, Rows.{key_bytes, kind_in, row_in, value_in}, Spelled.HasRow}
 use Rattle.store_rows.proofs.KeyLemmas.{keys_one_to_one}
 use Rattle.store_sqlite.proofs.Maps.{total}
-use Rattle.store_items.specs.Making.{change_seen}
-use Rattle.store_items.specs.Migrating.{AreListed, AreOld, IsMigration, change_between}
+use Rattle.store_items.specs.{Making.change_seen, Migrating.{AreListed, AreOld, IsMigration, change_between}}
 use Rattle.store_items.specs.Stored.{AreStored, rows_as}
 use Rattle.store_items.proofs.Listed.{AreApart, apart_of, never_itself, rising_rows, rising_stored, rows_listed, rows_same, same_has}
-use Rattle.store_items.proofs.Loops.{item_at}
-use Rattle.store_items.proofs.Members.{has_map, has_of, map_has, place_of, rows_rise, tied}
+use Rattle.store_items.proofs.{Loops.item_at, Members.{has_map, has_of, map_has, place_of, rows_rise, tied}}
 use Rattle.store_items.proofs.Reached.{made_put, there_value}
 
 -- ---- the changes of items, one after the other

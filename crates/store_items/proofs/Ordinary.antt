@@ -1,20 +1,15 @@
 -- A commit of which the last height is a new one is taken by every keeper.
-use Rattle.std.proofs.Common.{◌≡◌, ◌∙◌, Bool, true, List, sym, ap, subst}
-use Rattle.std.specs.Prelude.{Contains}
+use Rattle.std.proofs.Common.{◌≡◌, ◌∙◌, Bool, true, List, sym, ap, subst, Contains}
 use Rattle.std.specs.List.{AllByRecursion}
-use Rattle.sqlite_rules.specs.Lists.{Has}
-use Rattle.sqlite_rules.proofs.ListLemmas.{all_from}
-use Rattle.base_io.specs.declared.keeper.Change.{Change}
+use Rattle.sqlite_rules.{specs.Lists.Has, proofs.ListLemmas.all_from}
+use Rattle.base_io.specs.{declared.keeper.Change.Change, Changes.{IsOrdinary, IsPutOfHead, IsReserved}}
 use Rattle.base_io.specs.declared.keeper.Change.TheVariants as change
 use Rattle.base_io.specs.Rows as rows
-use Rattle.base_io.specs.Changes.{IsOrdinary, IsPutOfHead, IsReserved}
 use Rattle.base_roles.specs.declared.items.Item.{Item}
 use Rattle.base_roles.specs.declared.items.Item.TheVariants as item
 use Rattle.store_rows.specs.Formats.{written}
-use Rattle.store_items.specs.Making.{AreMade, HasNewHead, change_seen, item_change}
-use Rattle.store_items.specs.Stored.{HaveOwnKeys}
-use Rattle.store_items.proofs.Members.{has_map, has_of, map_has, place_of}
-use Rattle.store_items.proofs.MigrationLemmas.{is_head, item_free}
+use Rattle.store_items.specs.{Making.{AreMade, HasNewHead, change_seen, item_change}, Stored.HaveOwnKeys}
+use Rattle.store_items.proofs.{Members.{has_map, has_of, map_has, place_of}, MigrationLemmas.{is_head, item_free}}
 use Rattle.store_items.proofs.Reached.{are_distinct, made_put, seen_key}
 
 module _ (old new : List Item) (list : List Change) (made : AreMade old new list) where

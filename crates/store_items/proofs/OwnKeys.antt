@@ -1,28 +1,17 @@
 -- No two items of a sound state have one key.
-use Rattle.std.proofs.Common.{◌≡◌, ◌∙◌, ℕ, ◌+◌, ◌<◌, ◌≤◌, ◌==◌, Bool, true, false, cond, List, [], ◌∷◌, ◌++◌, map, reverse, Option, Some, None, refl, sym, ap, subst, arith, inl, inr}
-use Rattle.std.specs.Prelude.{All, ◌⊎◌, option_map}
-use Rattle.std.specs.Cmp.{IsTotalOrder, on_total, then_total}
-use Rattle.std.specs.List.{AllByRecursion, cons_option, filter_map, flat_map}
-use Rattle.std.specs.List.Sorted.{IsStrictlySortedBy}
-use Rattle.std.specs.Map.{keys_of}
-use Rattle.std.proofs.lemmas.List.{map-append, reverse-append}
+use Rattle.std.proofs.Common.{◌≡◌, ◌∙◌, ℕ, ◌+◌, ◌<◌, ◌≤◌, ◌==◌, Bool, true, false, cond, List, [], ◌∷◌, ◌++◌, map, reverse, Option, Some, None, refl, sym, ap, subst, arith, inl, inr, All, ◌⊎◌, option_map, filter_map, flat_map}
+use Rattle.std.specs.{Cmp.{IsTotalOrder, on_total, then_total}, List.{AllByRecursion, cons_option}}
+use Rattle.std.{specs.{List.Sorted.IsStrictlySortedBy, Map.keys_of}, proofs.lemmas.List.{map-append, reverse-append}}
 use Rattle.std.proofs.lemmas.List.Elements.{recursion_from_All}
 use Rattle.base_coins.specs.Coins.{Money}
 use Rattle.base_types.specs.Orders.{addr_cmp}
-use Rattle.base_roles.specs.declared.entities.Historical.{Historical}
-use Rattle.base_roles.specs.declared.entities.SlashEvent.{SlashEvent}
-use Rattle.base_roles.specs.declared.entities.StartingInfo.{StartingInfo}
-use Rattle.base_roles.specs.declared.entities.Validator.{Validator}
-use Rattle.base_roles.specs.declared.items.Item.{Item}
+use Rattle.base_roles.specs.declared.entities.{Historical.Historical, SlashEvent.SlashEvent, StartingInfo.StartingInfo}
+use Rattle.base_roles.specs.{declared.{entities.Validator.Validator, items.Item.Item}, Items.{IsOnce, key_of}}
+use Rattle.base_roles.{specs.Orders.triple_cmp, proofs.HoldingLemmas.{denom_total, place_total}}
 use Rattle.base_roles.specs.declared.items.Item.TheVariants as item
-use Rattle.base_roles.specs.Items.{IsOnce, key_of}
-use Rattle.base_roles.specs.Orders.{triple_cmp}
-use Rattle.base_roles.proofs.HoldingLemmas.{denom_total, place_total}
 use Rattle.rule_machine.specs.Items.{historical_items, items_of, ring_of, signing_items}
-use Rattle.rule_modules.specs.Chain.{State, shared_in, window_in}
-use Rattle.rule_modules.specs.Periods.{Periods, Rewards, history_kept, starts_of}
-use Rattle.rule_modules.specs.Window.{info_of}
-use Rattle.rule_modules.specs.Sound.{AreFalling, GrowWithHeight, IsSound, PeriodsAreSound}
+use Rattle.rule_modules.specs.{Chain.{State, shared_in, window_in}, Periods.{Periods, Rewards, history_kept, starts_of}}
+use Rattle.rule_modules.specs.{Window.info_of, Sound.{AreFalling, GrowWithHeight, IsSound, PeriodsAreSound}}
 use Rattle.rule_modules.proofs.OrderLemmas.{addr_total, cons_total, pair_total}
 use Rattle.base_records.proofs.MemberLemmas.{Member, Once, contained, member-cases, member-right, once, once-append}
 use Rattle.store_items.proofs.Blocks.{Block, join, mapped, member-flat, member-map, once_flat, one, rank}

@@ -1,27 +1,17 @@
 -- A commit of the changes from old items to new ones leaves the rows of the new ones.
-use Rattle.std.proofs.Common.{◌≡◌, ◌∙◌, inl, inr, ℕ, suc, ◌<◌, Bool, true, false, List, [], ◌∷◌, length, map, Option, Some, None, refl, sym, ap, ap₂, subst, arith, Ordering, Less, Equal, Greater}
-use Rattle.std.specs.Prelude.{IsSome, slice_get}
-use Rattle.std.specs.List.{AllByRecursion}
-use Rattle.std.specs.Ordering.{match_ordering}
-use Rattle.std.proofs.lemmas.Cmp.{tied_itself}
+use Rattle.std.proofs.Common.{◌≡◌, ◌∙◌, inl, inr, ℕ, suc, ◌<◌, Bool, true, false, List, [], ◌∷◌, length, map, Option, Some, None, refl, sym, ap, ap₂, subst, arith, Ordering, Less, Equal, Greater, IsSome, slice_get}
+use Rattle.std.{specs.{List.AllByRecursion, Ordering.match_ordering}, proofs.lemmas.Cmp.tied_itself}
 use Rattle.std.proofs.lemmas.List.Elements.{All-contains}
-use Rattle.sqlite_rules.specs.Lists.{Has}
-use Rattle.sqlite_rules.proofs.ListLemmas.{all_from, all_has}
-use Rattle.base_io.specs.declared.keeper.Change.{Change}
-use Rattle.base_io.specs.declared.keeper.Change.TheVariants as change
-use Rattle.base_io.specs.declared.keeper.Row.{Row}
-use Rattle.base_io.specs.Rows.{HasDistinctKeys, Pair, key_cmp}
+use Rattle.sqlite_rules.{specs.Lists.Has, proofs.ListLemmas.{all_from, all_has}}
+use Rattle.base_io.specs.{declared.keeper.{Change.Change, Row.Row}, Rows.{HasDistinctKeys, Pair, key_cmp}}
 use Rattle.base_io.specs.Changes.{ChangesRows, Rises, changed, pair_of, value_of}
+use Rattle.base_io.specs.declared.keeper.Change.TheVariants as change
 use Rattle.base_io.specs.Rows as rows
-use Rattle.base_roles.specs.declared.items.Item.{Item}
+use Rattle.base_roles.specs.{declared.items.Item.Item, Items.{IsOnce, key_of}}
 use Rattle.base_roles.specs.declared.items.Item.TheVariants as item
-use Rattle.base_roles.specs.Items.{IsOnce, key_of}
-use Rattle.store_rows.specs.declared.format.Format.{Format}
-use Rattle.store_rows.specs.Formats.{written}
-use Rattle.store_rows.specs.Rows.{key_bytes, row_in, row_of, value_bytes, value_in}
-use Rattle.store_rows.specs.Spelled.{IsKeyInRange}
-use Rattle.store_rows.proofs.KeyLemmas.{keys_one_to_one, ranged_one_to_one}
-use Rattle.store_rows.proofs.WholeLemmas.{key_alone, one_to_one}
+use Rattle.store_rows.specs.{declared.format.Format.Format, Formats.written}
+use Rattle.store_rows.specs.{Rows.{key_bytes, row_in, row_of, value_bytes, value_in}, Spelled.IsKeyInRange}
+use Rattle.store_rows.proofs.{KeyLemmas.{keys_one_to_one, ranged_one_to_one}, WholeLemmas.{key_alone, one_to_one}}
 use Rattle.store_sqlite.proofs.Maps.{same_members, total}
 use Rattle.store_items.specs.Stored.{AreStored, HaveOwnKeys, rows_in}
 use Rattle.store_items.specs.Making.{AreMade, HasKeyInRange, change_seen, item_change}

@@ -1,14 +1,10 @@
 -- What a list of changes makes of rows, and what it keeps.
 use Rattle.std.proofs.Common.{◌≡◌, ◌∙◌, ◌⊎◌, inl, inr, ℕ, List, [], ◌∷◌, refl, sym, ap, subst, Equal}
 use Rattle.std.proofs.lemmas.Cmp.{tied_itself}
-use Rattle.sqlite_rules.specs.Lists.{Has}
-use Rattle.sqlite_rules.proofs.ListLemmas.{all_has}
-use Rattle.base_io.specs.declared.keeper.Change.{Change}
+use Rattle.sqlite_rules.{specs.Lists.Has, proofs.ListLemmas.all_has}
+use Rattle.base_io.specs.{declared.keeper.{Change.Change, Row.Row}, Rows.{HasDistinctKeys, Pair, key_cmp, key_of}}
+use Rattle.base_io.{specs.Changes.{Rises, changed, changed_by, pair_of}, proofs.RowLemmas.remove_rises}
 use Rattle.base_io.specs.declared.keeper.Change.TheVariants as change
-use Rattle.base_io.specs.declared.keeper.Row.{Row}
-use Rattle.base_io.specs.Rows.{HasDistinctKeys, Pair, key_cmp, key_of}
-use Rattle.base_io.specs.Changes.{Rises, changed, changed_by, pair_of}
-use Rattle.base_io.proofs.RowLemmas.{remove_rises}
 use Rattle.store_sqlite.proofs.Maps.{has_put, has_removed, put_keeps, put_only, put_rises, removed_has, total}
 use Rattle.store_items.proofs.Members.{tied}
 

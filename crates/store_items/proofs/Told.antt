@@ -1,14 +1,9 @@
 -- The format that rows of items tell.
-use Rattle.std.proofs.Common.{◌≡◌, ◌∙◌, inl, inr, ℕ, Bool, true, false, cond, eqb, List, [], ◌∷◌, Some, refl, sym, ap, Less}
-use Rattle.std.proofs.lemmas.Bool.{eqb-true}
-use Rattle.sqlite_rules.specs.Lists.{Has}
-use Rattle.sqlite_rules.proofs.ListLemmas.{all_has}
-use Rattle.base_io.specs.Rows.{Pair, key_cmp}
-use Rattle.base_io.specs.Changes.{Rises}
+use Rattle.std.proofs.Common.{◌≡◌, ◌∙◌, inl, inr, ℕ, Bool, true, false, cond, eqb, List, [], ◌∷◌, Some, refl, sym, ap, Less, eqb-true}
+use Rattle.sqlite_rules.{specs.Lists.Has, proofs.ListLemmas.all_has}
+use Rattle.base_io.specs.{Rows.{Pair, key_cmp}, Changes.Rises}
 use Rattle.base_roles.specs.declared.items.Item.TheVariants as item
-use Rattle.store_rows.specs.declared.format.Format.{Format}
-use Rattle.store_rows.specs.declared.format.Format.TheVariants.{First, Second}
-use Rattle.store_rows.specs.Rows.{row_in}
+use Rattle.store_rows.specs.{declared.format.Format.{Format, TheVariants.{First, Second}}, Rows.row_in}
 use Rattle.store_rows.specs.Told.{format_in, format_told, is_head_key}
 use Rattle.store_items.proofs.Listed.{never_itself}
 

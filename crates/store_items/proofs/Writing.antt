@@ -1,27 +1,15 @@
 -- Each item of a sound state can be written.
-use Rattle.std.proofs.Common.{◌≡◌, ◌∙◌, ℕ, ◌+◌, suc, ◌-◌, ◌%◌, ◌^◌, ◌<◌, ◌≤◌, ◌==◌, Bool, true, false, cond, List, [], ◌∷◌, ◌++◌, length, map, take, drop, reverse, min, nat_le, Option, Some, None, refl, sym, ap, subst, arith, inl, inr, length-append}
-use Rattle.std.specs.Prelude.{All, Contains, ◌⊎◌, option_map}
-use Rattle.std.specs.Bool.{Decides}
-use Rattle.std.specs.Set.{is_member}
-use Rattle.std.specs.List.{AllByRecursion, cons_option, filter_map, flat_map}
-use Rattle.std.specs.Map.{keys_of, values_of}
-use Rattle.std.specs.Ordering.{eq_by_cmp}
-use Rattle.std.specs.Cmp.{eq_by_cmp_equiv}
-use Rattle.std.proofs.lemmas.List.{length-take, length-reverse, length-drop}
-use Rattle.std.proofs.lemmas.List.Elements.{recursion_from_All}
-use Rattle.std.proofs.lemmas.Map.Keys.{IsDistinct-from_sorted}
-use Rattle.std.proofs.lemmas.Map.Made.{is_member-Decides, length-le_from_is_member}
-use Rattle.std.proofs.lemmas.Map.Text.{is_eq-slice_cmp}
-use Rattle.std.proofs.lemmas.Slice.Eq.{bytes_eq-Decides}
+use Rattle.std.proofs.Common.{◌≡◌, ◌∙◌, ℕ, ◌+◌, suc, ◌-◌, ◌%◌, ◌^◌, ◌<◌, ◌≤◌, ◌==◌, Bool, true, false, cond, List, [], ◌∷◌, ◌++◌, length, map, take, drop, reverse, min, nat_le, Option, Some, None, refl, sym, ap, subst, arith, inl, inr, length-append, All, Contains, ◌⊎◌, option_map, Decides, filter_map, flat_map, length-take, length-drop}
+use Rattle.std.specs.{Set.is_member, List.{AllByRecursion, cons_option}, Map.{keys_of, values_of}, Ordering.eq_by_cmp}
+use Rattle.std.{specs.Cmp.eq_by_cmp_equiv, proofs.lemmas.List.{length-reverse, Elements.recursion_from_All}}
+use Rattle.std.proofs.lemmas.Map.{Keys.IsDistinct-from_sorted, Made.{is_member-Decides, length-le_from_is_member}}
+use Rattle.std.proofs.lemmas.{Map.Text.is_eq-slice_cmp, Slice.Eq.bytes_eq-Decides}
 use Rattle.base_types.specs.Orders.{denom_cmp}
 use Rattle.base_coins.specs.Coins.{IsMoney, Money}
-use Rattle.base_roles.specs.declared.entities.Historical.{Historical}
-use Rattle.base_roles.specs.declared.entities.Purse.{Purse}
-use Rattle.base_roles.specs.declared.entities.SigningInfo.{SigningInfo}
-use Rattle.base_roles.specs.declared.entities.StartingInfo.{StartingInfo}
-use Rattle.base_roles.specs.declared.items.Item.{Item}
-use Rattle.base_roles.specs.declared.items.Item.TheVariants as item
+use Rattle.base_roles.specs.declared.entities.{Historical.Historical, Purse.Purse, SigningInfo.SigningInfo}
+use Rattle.base_roles.specs.declared.{entities.StartingInfo.StartingInfo, items.Item.Item}
 use Rattle.base_roles.proofs.HoldingLemmas.{denom_total}
+use Rattle.base_roles.specs.declared.items.Item.TheVariants as item
 use Rattle.rule_machine.specs.Items.{entry_items, ground_items, historical_items, holding_items, items_of, purse_items, reward_items, ring_of, shared_items, signing_items, staked_items}
 use Rattle.store_rows.specs.Spelled.{IsCountable, IsWritable}
 use Rattle.rule_modules.specs.Chain.{State, shared_in, window_in}

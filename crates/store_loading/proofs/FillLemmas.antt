@@ -1,24 +1,18 @@
 -- Modules that have just the items of records keep these records.
-use Rattle.std.proofs.Common.{◌≡◌, ◌∙◌, ℕ, Bool, true, List, [], ◌∷◌, ◌++◌, map, refl, sym, ap, subst, inl, inr}
-use Rattle.std.specs.Prelude.{◌⊎◌, Contains}
-use Rattle.std.specs.List.{AllByRecursion}
-use Rattle.std.specs.List.Sorted.{IsStrictlySortedBy}
-use Rattle.std.specs.Map.{keys_of}
+use Rattle.std.proofs.Common.{◌≡◌, ◌∙◌, ℕ, Bool, true, List, [], ◌∷◌, ◌++◌, map, refl, sym, ap, subst, inl, inr, ◌⊎◌, Contains}
+use Rattle.std.specs.{List.{AllByRecursion, Sorted.IsStrictlySortedBy}, Map.keys_of}
 use Rattle.std.proofs.lemmas.List.Elements.{All-from_recursion}
 use Rattle.base_types.specs.Orders.{cons_cmp}
-use Rattle.base_roles.specs.declared.entities.Validator.{Validator}
-use Rattle.base_roles.specs.declared.items.Item.{Item}
-use Rattle.base_roles.specs.declared.items.Item.TheVariants as item
-use Rattle.base_roles.specs.Items.{IsEmptyPool}
+use Rattle.base_roles.specs.{declared.{entities.Validator.Validator, items.Item.Item}, Items.IsEmptyPool}
 use Rattle.base_roles.specs.Orders.{pair_cmp, triple_cmp}
+use Rattle.base_roles.specs.declared.items.Item.TheVariants as item
 use Rattle.base_records.specs.Items.{rows_of}
 use Rattle.base_records.proofs.MemberLemmas.{Member, contained, member, member-left, member-right}
 use Rattle.mod_bank.specs.Booked as bank_kept
 use Rattle.mod_bank.specs.Items.{balance_item, supply_item}
 use Rattle.mod_bank.specs.Items as bank
-use Rattle.mod_staking.specs.Registered.{AreKeyed}
+use Rattle.mod_staking.specs.{Registered.AreKeyed, Items.{delegation_item, validator_item}}
 use Rattle.mod_staking.specs.Registered as book_kept
-use Rattle.mod_staking.specs.Items.{delegation_item, validator_item}
 use Rattle.mod_staking.specs.Items as book
 use Rattle.mod_unbonding.specs.Items.{unbonding_item}
 use Rattle.mod_unbonding.specs.Items as unbonding
@@ -32,8 +26,7 @@ use Rattle.mod_signing.specs.Items as window
 use Rattle.mod_distribution.specs.Items.{payee_item}
 use Rattle.mod_distribution.specs.Items as distr
 use Rattle.chain_modules.specs.Kept.{KeptState}
-use Rattle.store_records.specs.declared.records.Signed.{Signed}
-use Rattle.store_records.specs.Plain.{AreAscending, PlainSeen, listed}
+use Rattle.store_records.specs.{declared.records.Signed.Signed, Plain.{AreAscending, PlainSeen, listed}}
 use Rattle.store_records.proofs.ListedLemmas.{StandsIn, from_both, from_map, in_map, listed_stands, same_standing, stands_listed, under_own}
 use Rattle.store_loading.specs.Loaded.{Holds, HoldItems, kept_in, plain_in, plain_signed, signings_in}
 

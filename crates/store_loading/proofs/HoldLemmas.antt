@@ -1,9 +1,7 @@
 -- Items that are put into a module one after another.
-use Rattle.std.proofs.Common.{◌≡◌, ◌∙◌, ℕ, zero, suc, ◌+◌, ◌<◌, ◌≤◌, Bool, true, false, List, [], ◌∷◌, ◌++◌, get_or, length, map, take, take_all, refl, sym, ap, subst, arith, inl, inr}
-use Rattle.std.specs.Prelude.{◌≢◌, ◌⊎◌, Contains}
+use Rattle.std.proofs.Common.{◌≡◌, ◌∙◌, ℕ, zero, suc, ◌+◌, ◌<◌, ◌≤◌, Bool, true, false, List, [], ◌∷◌, ◌++◌, get_or, length, map, take, take_all, refl, sym, ap, subst, arith, inl, inr, ◌≢◌, ◌⊎◌, Contains}
 use Rattle.std.proofs.lemmas.List.{take_more}
-use Rattle.base_roles.specs.declared.items.Item.{Item}
-use Rattle.base_roles.specs.Items.{key_of, HasRoom, IsAdded, IsEmptyPool}
+use Rattle.base_roles.specs.{declared.items.Item.Item, Items.{key_of, HasRoom, IsAdded, IsEmptyPool}}
 use Rattle.base_records.proofs.KindLemmas.{once-told}
 use Rattle.base_records.proofs.MemberLemmas.{Member, Once, contained, member, member-cases, member-left, member-right}
 use Rattle.store_loading.specs.Loaded.{HasNone, HaveOwnKeys, Holds}

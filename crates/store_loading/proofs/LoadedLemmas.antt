@@ -1,16 +1,12 @@
 -- Modules that were filled are those of the records.
-use Rattle.std.proofs.Common.{◌≡◌, [], map, sym, ap, subst}
-use Rattle.std.specs.Prelude.{⊤, IfOk, OnOk, Result, Ok, Err}
-use Rattle.base_roles.specs.declared.faults.RecordFault.{RecordFault}
-use Rattle.base_roles.specs.declared.params.Ctx.{Ctx}
-use Rattle.base_roles.specs.Items.{key_of}
+use Rattle.std.proofs.Common.{◌≡◌, [], map, sym, ap, subst, IfOk, OnOk, Result, Ok, Err}
+use Rattle.std.specs.Prelude.{⊤}
+use Rattle.base_roles.specs.{declared.{faults.RecordFault.RecordFault, params.Ctx.Ctx}, Items.key_of}
 use Rattle.base_records.proofs.MemberLemmas.{once}
 use Rattle.mod_distribution.specs.Items as distr
-use Rattle.chain_modules.specs.declared.modules.Modules.{Modules}
-use Rattle.chain_modules.specs.Kept.{AreSet, IsNewOver, kept_of, parts_of}
+use Rattle.chain_modules.specs.{declared.modules.Modules.Modules, Kept.{AreSet, IsNewOver, kept_of, parts_of}}
 use Rattle.chain_modules.specs.Marks.{marks_of, no_marks, settled_of}
-use Rattle.store_records.specs.Plain.{AreAscending, PlainSeen, listed}
-use Rattle.store_records.proofs.OnceLaws.{listed_once}
+use Rattle.store_records.{specs.Plain.{AreAscending, PlainSeen, listed}, proofs.OnceLaws.listed_once}
 use Rattle.store_loading.specs.Loaded.{AreLoaded, AreUnspent, HaveOwnKeys, HoldItems, empty_ground, plain_in}
 use Rattle.store_loading.proofs.FillLemmas.{keep_just}
 

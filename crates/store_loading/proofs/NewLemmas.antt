@@ -1,8 +1,6 @@
 -- Modules without records: nothing stands in them but an empty community pool, no mark is open, and memory was never wanting.
-use Rattle.std.proofs.Common.{◌≡◌, [], sym, ap, subst, inl, inr}
-use Rattle.std.specs.Prelude.{false}
-use Rattle.base_roles.specs.declared.params.Ctx.{Ctx}
-use Rattle.base_roles.specs.Items.{IsEmptyPool}
+use Rattle.std.proofs.Common.{◌≡◌, [], sym, ap, subst, inl, inr, false}
+use Rattle.base_roles.specs.{declared.params.Ctx.Ctx, Items.IsEmptyPool}
 use Rattle.base_records.proofs.MemberLemmas.{Member, member}
 use Rattle.mod_bank.specs.Items as bank
 use Rattle.mod_staking.specs.Items as book
@@ -11,8 +9,7 @@ use Rattle.mod_redelegation.specs.Items as redelegate
 use Rattle.mod_signing.specs.Items as window
 use Rattle.mod_distribution.specs.Kept as distr_kept
 use Rattle.mod_distribution.specs.Items as distr
-use Rattle.chain_modules.specs.declared.modules.Modules.{Modules}
-use Rattle.chain_modules.specs.Kept.{IsNewOver}
+use Rattle.chain_modules.specs.{declared.modules.Modules.Modules, Kept.IsNewOver}
 use Rattle.store_loading.specs.Loaded.{HasNone, empty_ground}
 
 none : HasNone []

@@ -1,12 +1,8 @@
 -- The orders in which maps keep places and keys of three addresses are those of their definitions.
-use Rattle.std.proofs.Common.{◌≡◌, ℕ, List, refl, ap}
-use Rattle.std.specs.declared.cmp.Ordering.{Ordering}
-use Rattle.std.specs.declared.cmp.Ordering.TheVariants.{Less, Equal, Greater}
+use Rattle.std.proofs.Common.{◌≡◌, ℕ, List, refl, ap, Ordering, Less, Equal, Greater}
 use Rattle.std.specs.Ordering.{ordering_then}
-use Rattle.base_types.specs.declared.account.Account.{Account}
-use Rattle.base_types.specs.Orders.{addr_cmp}
-use Rattle.base_roles.specs.Orders.{place_cmp, triple_cmp}
-use Rattle.base_roles.proofs.HoldingLemmas.{place_order, place_order_is}
+use Rattle.base_types.specs.{declared.account.Account.Account, Orders.addr_cmp}
+use Rattle.base_roles.{specs.Orders.{place_cmp, triple_cmp}, proofs.HoldingLemmas.{place_order, place_order_is}}
 use Rattle.store_records.specs.Gathering.{with_new}
 
 pub balance_new : (es : List ((Account × List ℕ) × ℕ)) (place : Account × List ℕ) (n : ℕ) → with_new place_order es place n ≡ with_new place_cmp es place n

@@ -1,20 +1,11 @@
 -- Records whose keys ascend are told by their items.
-use Rattle.std.proofs.Common.{◌≡◌, ◌∙◌, ℕ, List, [], ◌∷◌, ◌++◌, map, refl, sym, ap, subst, inl, inr}
-use Rattle.std.specs.Prelude.{◌⊎◌, All}
-use Rattle.std.specs.declared.cmp.Ordering.{Ordering}
-use Rattle.std.specs.declared.cmp.Ordering.TheVariants.{Less}
-use Rattle.std.specs.Cmp.{IsTotalOrder, on_total}
-use Rattle.std.specs.List.{AllByRecursion}
-use Rattle.std.specs.List.Sorted.{IsStrictlySortedBy}
-use Rattle.std.specs.Map.{keys_of}
-use Rattle.std.specs.Ordering.{on}
-use Rattle.std.proofs.lemmas.List.Elements.{recursion_from_All}
+use Rattle.std.proofs.Common.{◌≡◌, ◌∙◌, ℕ, List, [], ◌∷◌, ◌++◌, map, refl, sym, ap, subst, inl, inr, ◌⊎◌, All, Ordering, Less}
+use Rattle.std.specs.{Cmp.{IsTotalOrder, on_total}, List.{AllByRecursion, Sorted.IsStrictlySortedBy}, Map.keys_of}
+use Rattle.std.{specs.Ordering.on, proofs.lemmas.List.Elements.recursion_from_All}
 use Rattle.base_types.specs.Orders.{addr_cmp, cons_cmp, denom_cmp}
-use Rattle.base_roles.specs.declared.entities.Validator.{Validator}
-use Rattle.base_roles.specs.declared.items.Item.{Item}
+use Rattle.base_roles.specs.declared.{entities.Validator.Validator, items.Item.Item}
+use Rattle.base_roles.{specs.Orders.{pair_cmp, place_cmp, triple_cmp}, proofs.HoldingLemmas.{denom_total, place_total}}
 use Rattle.base_roles.specs.declared.items.Item.TheVariants as item
-use Rattle.base_roles.specs.Orders.{pair_cmp, place_cmp, triple_cmp}
-use Rattle.base_roles.proofs.HoldingLemmas.{denom_total, place_total}
 use Rattle.base_records.proofs.AscendLemmas.{same_members}
 use Rattle.base_records.proofs.MemberLemmas.{Member, member-left, member-right, member-cases}
 use Rattle.rule_modules.proofs.OrderLemmas.{addr_total, cons_total, pair_total}

@@ -1,27 +1,15 @@
 -- Records whose keys ascend list no key twice; and what stands once in a list does so in every order.
-use Rattle.std.proofs.Common.{◌≡◌, ◌∙◌, ℕ, suc, zero, ◌<◌, ◌≤◌, List, [], ◌∷◌, ◌++◌, length, get_or, map, refl, sym, ap, subst, arith, inl, inr}
-use Rattle.std.specs.Prelude.{◌⊎◌, swap}
-use Rattle.std.specs.declared.cmp.Ordering.{Ordering}
-use Rattle.std.specs.declared.cmp.Ordering.TheVariants.{Less, Equal}
-use Rattle.std.specs.Cmp.{IsTotalOrder}
-use Rattle.std.specs.List.{AllByRecursion}
-use Rattle.std.specs.List.Sorted.{IsPermutation, IsStrictlySortedBy}
-use Rattle.std.specs.Map.{keys_of}
-use Rattle.std.proofs.lemmas.Bool.{cases_eq, cases_lt}
-use Rattle.std.proofs.lemmas.Cmp.{tied_itself}
-use Rattle.std.proofs.lemmas.List.{map-append}
-use Rattle.std.proofs.lemmas.List.Edits.{Swapped, swapped_from_swap, length-swap}
-use Rattle.std.proofs.lemmas.List.Elements.{recursion_from_All}
+use Rattle.std.proofs.Common.{◌≡◌, ◌∙◌, ℕ, suc, zero, ◌<◌, ◌≤◌, List, [], ◌∷◌, ◌++◌, length, get_or, map, refl, sym, ap, subst, arith, inl, inr, ◌⊎◌, swap, Ordering, Less, Equal, IsPermutation}
+use Rattle.std.specs.{Cmp.IsTotalOrder, List.{AllByRecursion, Sorted.IsStrictlySortedBy}, Map.keys_of}
+use Rattle.std.proofs.lemmas.{Bool.{cases_eq, cases_lt}, Cmp.tied_itself, List.map-append}
+use Rattle.std.proofs.lemmas.List.{Edits.{Swapped, swapped_from_swap, length-swap}, Elements.recursion_from_All}
 use Rattle.std.proofs.lemmas.List.Sorted.{IsPermutation-keeps}
 use Rattle.base_types.specs.Orders.{addr_cmp, cons_cmp, denom_cmp}
 use Rattle.base_coins.specs.Coins.{Money}
-use Rattle.base_roles.specs.declared.entities.SlashEvent.{SlashEvent}
-use Rattle.base_roles.specs.declared.entities.Validator.{Validator}
-use Rattle.base_roles.specs.declared.items.Item.{Item}
-use Rattle.base_roles.specs.declared.items.Item.TheVariants as item
+use Rattle.base_roles.specs.declared.{entities.{SlashEvent.SlashEvent, Validator.Validator}, items.Item.Item}
 use Rattle.base_roles.specs.Items.{key_of, no_address, no_info, no_purse, no_validator}
-use Rattle.base_roles.specs.Orders.{pair_cmp, place_cmp, triple_cmp}
-use Rattle.base_roles.proofs.HoldingLemmas.{denom_total, place_total}
+use Rattle.base_roles.{specs.Orders.{pair_cmp, place_cmp, triple_cmp}, proofs.HoldingLemmas.{denom_total, place_total}}
+use Rattle.base_roles.specs.declared.items.Item.TheVariants as item
 use Rattle.base_records.proofs.MemberLemmas.{Member, Once, member, contained, member-cases, once-append}
 use Rattle.rule_modules.proofs.OrderLemmas.{addr_total, cons_total, pair_total}
 use Rattle.rule_machine.specs.Items.{entry_items, holding_items, staked_items}

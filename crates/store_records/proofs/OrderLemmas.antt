@@ -1,6 +1,5 @@
 -- The orders of keys with periods, and of three addresses, are total.
-use Rattle.std.specs.Prelude.{ℕ, List}
-use Rattle.std.specs.Cmp.{IsTotalOrder, on_total, then_total, nat_cmp_total}
+use Rattle.std.specs.{Prelude.{ℕ, List}, Cmp.{IsTotalOrder, on_total, then_total, nat_cmp_total}}
 use Rattle.base_roles.specs.Orders.{triple_cmp}
 use Rattle.rule_modules.proofs.OrderLemmas.{addr_total}
 use Rattle.store_records.specs.Plain.{period_cmp, event_cmp}

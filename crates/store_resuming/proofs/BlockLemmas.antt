@@ -1,49 +1,30 @@
 -- Like states give to each block what is alike: the same report and states that are so again, or the same fault.
-use Rattle.std.proofs.Common.{◌≡◌, ◌∙◌, ℕ, suc, ◌+◌, ◌^◌, ◌<◌, ◌≤◌, Bool, true, false, List, [], ◌∷◌, ◌++◌, length, map, Option, Some, None, Result, Ok, Err, refl, sym, ap, subst, arith}
-use Rattle.std.specs.Prelude.{All, Contains, IfOk, nat_le, ⊤}
-use Rattle.std.specs.List.{AllByRecursion}
-use Rattle.std.proofs.lemmas.List.Elements.{All-head, All-tail}
+use Rattle.std.proofs.Common.{◌≡◌, ◌∙◌, ℕ, suc, ◌+◌, ◌^◌, ◌<◌, ◌≤◌, Bool, true, false, List, [], ◌∷◌, ◌++◌, length, map, Option, Some, None, Result, Ok, Err, refl, sym, ap, subst, arith, All, Contains, IfOk, nat_le}
+use Rattle.std.{specs.{Prelude.⊤, List.AllByRecursion}, proofs.lemmas.List.Elements.{All-head, All-tail}}
 use Rattle.base_decimals.specs.declared.over.Over.{Over}
 use Rattle.base_types.specs.declared.account.Account.TheVariants as account
 use Rattle.base_types.specs.declared.account.Module.TheVariants as holder
 use Rattle.base_coins.specs.Coins.{Money}
-use Rattle.base_roles.specs.declared.messages.Evidence.{Evidence}
-use Rattle.base_roles.specs.declared.messages.Vote.{Vote}
-use Rattle.base_roles.specs.declared.params.Ctx.{Ctx}
-use Rattle.base_roles.specs.declared.refusal.Refusal.{Refusal}
+use Rattle.base_roles.specs.declared.{messages.{Evidence.Evidence, Vote.Vote}, params.Ctx.Ctx, refusal.Refusal.Refusal}
 use Rattle.base_roles.specs.declared.refusal.Refusal.TheVariants.{FeeUnpaid}
-use Rattle.base_roles.specs.Flow.{◌>>=◌, ◌>>◌, each, stop_if, stopping}
-use Rattle.base_roles.specs.Holdings.{coins_of, is_short}
-use Rattle.base_roles.specs.Staked.{Staked}
+use Rattle.base_roles.specs.{Flow.{◌>>=◌, ◌>>◌, each, stop_if, stopping}, Holdings.{coins_of, is_short}, Staked.Staked}
 use Rattle.base_roles.specs.World.{View, Hook, Told, World, sent}
-use Rattle.base_messages.specs.declared.block.Block.{Block}
-use Rattle.base_messages.specs.declared.block.Tx.{Tx}
-use Rattle.base_messages.specs.declared.faults.BlockFault.{BlockFault}
-use Rattle.base_messages.specs.declared.faults.BlockFault.TheVariants.{RatioLimit}
-use Rattle.base_messages.specs.declared.message.Msg.{Msg}
+use Rattle.base_messages.specs.declared.{block.{Block.Block, Tx.Tx}, faults.BlockFault.BlockFault}
+use Rattle.base_messages.specs.declared.{faults.BlockFault.TheVariants.RatioLimit, message.Msg.Msg}
 use Rattle.base_messages.specs.declared.report.BlockReport.{BlockReport}
-use Rattle.rule_modules.specs.Allocation.{allocated, fees_allocated}
-use Rattle.rule_modules.specs.Amounts.{over_facts}
+use Rattle.rule_modules.specs.{Allocation.{allocated, fees_allocated}, Amounts.over_facts}
 use Rattle.rule_modules.specs.Chain.{State, Stakes, allocation_step, begin_block, beside_window, end_block, evidence_step, maturing_step, redelegations_step, set_step, unbondings_step, vote_step, with_window}
 use Rattle.rule_modules.specs.Distribution.{Shared, distribution_told}
 use Rattle.rule_modules.specs.Effects.{Ending, after_fee, effects_of, fee_paid, refused_at, stands_or_fee}
-use Rattle.rule_modules.specs.Evidence.{equivocation_handled, window_bans}
-use Rattle.rule_modules.specs.Laws.{next_block}
-use Rattle.rule_modules.specs.Slashing.{Slashes, core_slashes, plain_slash}
-use Rattle.rule_modules.specs.Sound.{IsSound}
+use Rattle.rule_modules.specs.{Evidence.{equivocation_handled, window_bans}, Laws.next_block}
+use Rattle.rule_modules.specs.{Slashing.{Slashes, core_slashes, plain_slash}, Sound.IsSound}
 use Rattle.rule_modules.specs.Window.{Signing, Window, signing_of, voted}
-use Rattle.rule_machine.specs.Blocks.{block_fault}
-use Rattle.rule_machine.specs.GenesisState.{without_facts}
+use Rattle.rule_machine.specs.{Blocks.block_fault, GenesisState.without_facts}
 use Rattle.rule_machine.specs.Machine.{Run, Step, TxStep, TxSteps, block_checked, evidence_checked, going_on, outcome_of, run_of, step, stop_at, tx_applied, txs_applied, votes_checked}
-use Rattle.rule_machine.specs.Messages.{effect_of}
-use Rattle.rule_machine.specs.Promises.{MessageHasCoins, TxHasCoins}
+use Rattle.rule_machine.specs.{Messages.effect_of, Promises.{MessageHasCoins, TxHasCoins}}
 use Rattle.rule_machine.proofs.DueLemmas.{IsDue, is_due}
-use Rattle.law_soundness.proofs.Bonding.{set_step_fits}
-use Rattle.law_soundness.proofs.Burns.{total_in}
-use Rattle.law_soundness.proofs.Ending.{redelegations_fit, unbondings_fit}
-use Rattle.law_soundness.proofs.Following.{next_fits}
-use Rattle.law_soundness.proofs.Maturing.{maturing_fits}
-use Rattle.law_soundness.proofs.Moves.{fee_fits}
+use Rattle.law_soundness.proofs.{Bonding.set_step_fits, Burns.total_in, Ending.{redelegations_fit, unbondings_fit}}
+use Rattle.law_soundness.proofs.{Following.next_fits, Maturing.maturing_fits, Moves.fee_fits}
 use Rattle.law_soundness.proofs.Points.{MessageLeft, StateFits, StateLeft, at_moment, from_fits, to_fits}
 use Rattle.law_soundness.proofs.Running.{AllocatedLeft, AreDistinct, AreKnown, BegunLeft, CountBelow, HasBegun, HaveCoins, StepFits, allocated_left, begin_fits, begun_fits, block_fits, counts_on, done_fits, votes_are}
 use Rattle.law_soundness.proofs.Steps.{lifted_if, on_then, weaker_if}

@@ -1,60 +1,39 @@
 -- The rows of a store decide all later answers: states of the same rows are alike, and like states that are sound have the same items
 -- and the same report.
-use Rattle.std.proofs.Common.{◌≡◌, ◌∙◌, ℕ, zero, suc, ◌+◌, ◌-◌, ◌%◌, ◌^◌, ◌<◌, ◌≤◌, ◌==◌, Bool, true, false, cond, List, [], ◌∷◌, ◌++◌, length, map, take, drop, filter, Option, Some, None, refl, sym, ap, subst, arith, inl, inr}
-use Rattle.std.specs.Prelude.{◌⊎◌, if◌then◌else◌, option_map, reverse, unwrap_or}
-use Rattle.std.specs.List.{AllByRecursion}
-use Rattle.std.specs.Map.{values_of}
-use Rattle.std.proofs.lemmas.Bool.Decides.{nat_tests}
+use Rattle.std.proofs.Common.{◌≡◌, ◌∙◌, ℕ, zero, suc, ◌+◌, ◌-◌, ◌%◌, ◌^◌, ◌<◌, ◌≤◌, ◌==◌, Bool, true, false, cond, List, [], ◌∷◌, ◌++◌, length, map, take, drop, filter, Option, Some, None, refl, sym, ap, subst, arith, inl, inr, ◌⊎◌, if◌then◌else◌, option_map, reverse, unwrap_or}
+use Rattle.std.{specs.{List.AllByRecursion, Map.values_of}, proofs.lemmas.Bool.Decides.nat_tests}
 use Rattle.std.proofs.lemmas.List.{reverse-reverse}
 use Rattle.sqlite_rules.specs.Lists.{Has}
 use Rattle.base_types.specs.Orders.{addr_cmp}
 use Rattle.base_coins.specs.Coins.{Money}
-use Rattle.base_roles.specs.declared.entities.Historical.{Historical}
-use Rattle.base_roles.specs.declared.entities.SigningInfo.{SigningInfo}
-use Rattle.base_roles.specs.declared.entities.SlashEvent.{SlashEvent}
-use Rattle.base_roles.specs.declared.entities.StartingInfo.{StartingInfo}
-use Rattle.base_roles.specs.declared.entities.Validator.{Validator}
-use Rattle.base_roles.specs.declared.items.Item.{Item}
-use Rattle.base_roles.specs.Entries.{at}
-use Rattle.base_roles.specs.Orders.{same_addr}
-use Rattle.base_roles.specs.Staked.{validator_at}
-use Rattle.base_roles.specs.World.{View}
+use Rattle.base_roles.specs.declared.entities.{Historical.Historical, SigningInfo.SigningInfo, SlashEvent.SlashEvent}
+use Rattle.base_roles.specs.declared.{entities.{StartingInfo.StartingInfo, Validator.Validator}, items.Item.Item}
+use Rattle.base_roles.specs.{Entries.at, Orders.same_addr, Staked.validator_at, World.View}
 use Rattle.base_records.proofs.MemberLemmas.{Member, contained, member}
-use Rattle.rule_modules.specs.Amounts.{count_where}
-use Rattle.rule_modules.specs.Chain.{State, shared_in, window_in}
+use Rattle.rule_modules.specs.{Amounts.count_where, Chain.{State, shared_in, window_in}}
 use Rattle.rule_modules.specs.Periods.{Periods, Rewards, history_kept, initial_records, last_ended, periods_of, ratio_at, references_of, starts_of}
-use Rattle.rule_modules.specs.Purses.{purse_of}
-use Rattle.rule_modules.specs.Sound.{IsSound}
-use Rattle.rule_modules.specs.Window.{Signing, Window, info_of}
+use Rattle.rule_modules.specs.{Purses.purse_of, Sound.IsSound, Window.{Signing, Window, info_of}}
 use Rattle.rule_modules.proofs.OperatorLemmas.{filtered_all}
-use Rattle.rule_machine.specs.Items.{items_of}
-use Rattle.rule_machine.specs.Machine.{run_of}
+use Rattle.rule_machine.specs.{Items.items_of, Machine.run_of}
 use Rattle.rule_machine.specs.Report.{accounts_in, by_delegator, pending_at, report_of, unless_over}
 use Rattle.mod_periods.specs.Kept as f1
-use Rattle.mod_periods.specs.Stands.{KeepsRewards, history_of}
+use Rattle.mod_periods.{specs.Stands.{KeepsRewards, history_of}, proofs.FoundLemmas.last-referred}
 use Rattle.mod_periods.specs.Stands as stands
-use Rattle.mod_periods.proofs.FoundLemmas.{last-referred}
 use Rattle.mod_signing.specs.Kept as kept
 use Rattle.mod_signing.specs.Stands.{KeepsSignings, KeepsVotes}
 use Rattle.chain_modules.specs.Kept.{KeptState, Keeps}
 use Rattle.law_soundness.proofs.Lists.{counts_itself, found_by, from_filtered, from_mapped, mapped_all, weaker}
 use Rattle.law_soundness.proofs.Running.{runs_keep_soundness}
-use Rattle.store_items.proofs.Listed.{same_has}
-use Rattle.store_items.proofs.Members.{has_of, place_of}
-use Rattle.store_records.specs.Plain.{AreAscending, PlainSeen, listed}
-use Rattle.store_records.proofs.ListedLemmas.{same_records}
+use Rattle.store_items.proofs.{Listed.same_has, Members.{has_of, place_of}}
+use Rattle.store_records.{specs.Plain.{AreAscending, PlainSeen, listed}, proofs.ListedLemmas.same_records}
 use Rattle.store_loading.specs.Loaded.{kept_in}
 use Rattle.store_rows.specs.declared.format.Format.TheVariants.{Second}
-use Rattle.law_records.specs.HistoryLaws.{kept_rewards}
-use Rattle.law_records.specs.Records.{plain_of, shared_of, signed_in}
+use Rattle.law_records.specs.{HistoryLaws.kept_rewards, Records.{plain_of, shared_of, signed_in}}
 use Rattle.law_records.proofs.RecordLaws.{items_are_listed, plain_ascends}
 use Rattle.law_records.proofs.RewardLists.{currents_kept, histories_kept, slashes_kept}
-use Rattle.store_resuming.specs.Deciding.{RowsDecideAnswers}
-use Rattle.store_resuming.specs.Restored.{HaveSameRows, IsStorable, state_rows}
-use Rattle.store_resuming.proofs.BlockLemmas.{RunsAlike, run_alike}
-use Rattle.store_resuming.proofs.KeepLaws.{keeps_records, rewards_keep}
-use Rattle.store_resuming.proofs.MessageLemmas.{StatesAlike, over, state_by, window_at}
-use Rattle.store_resuming.proofs.RestoreLemmas.{formats_same}
+use Rattle.store_resuming.specs.{Deciding.RowsDecideAnswers, Restored.{HaveSameRows, IsStorable, state_rows}}
+use Rattle.store_resuming.proofs.{BlockLemmas.{RunsAlike, run_alike}, KeepLaws.{keeps_records, rewards_keep}}
+use Rattle.store_resuming.proofs.{MessageLemmas.{StatesAlike, over, state_by, window_at}, RestoreLemmas.formats_same}
 use Rattle.store_resuming.proofs.RewardLemmas.{OptionsAlike, PeriodsAlike, RewardsAlike, SameRatio, own}
 use Rattle.store_resuming.proofs.SharedLemmas.{beside, pending_same}
 use Rattle.store_resuming.proofs.WindowLemmas.{SigningsAlike, WindowsAlike, same_infos, same_signed}

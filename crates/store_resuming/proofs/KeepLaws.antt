@@ -1,25 +1,17 @@
 -- The records of a sound state, as modules keep them, stand for it and for each other one with the same items.
 use Rattle.std.proofs.Common.{◌≡◌, ◌∙◌, List, [], refl, sym, ap, subst}
-use Rattle.base_roles.specs.declared.items.Item.{Item}
-use Rattle.base_roles.specs.World.{View}
-use Rattle.rule_modules.specs.Chain.{State, shared_in, window_in}
-use Rattle.rule_modules.specs.Periods.{Rewards}
-use Rattle.rule_modules.specs.Sound.{IsSound}
+use Rattle.base_roles.specs.{declared.items.Item.Item, World.View}
+use Rattle.rule_modules.specs.{Chain.{State, shared_in, window_in}, Periods.Rewards, Sound.IsSound}
 use Rattle.base_records.proofs.MemberLemmas.{Member}
 use Rattle.rule_machine.specs.Items.{items_of}
 use Rattle.mod_periods.specs.Kept as f1
 use Rattle.mod_periods.specs.Stands.{KeepsRewards}
-use Rattle.mod_signing.specs.Kept.{Kept}
-use Rattle.mod_signing.specs.Stands.{KeepsSignings}
+use Rattle.mod_signing.specs.{Kept.Kept, Stands.KeepsSignings}
 use Rattle.mod_distribution.specs.Items.{AreInOrder}
 use Rattle.chain_modules.specs.Kept.{KeptState, Keeps}
-use Rattle.store_records.specs.Plain.{PlainSeen, listed}
-use Rattle.store_records.proofs.ListedLemmas.{same_records}
-use Rattle.law_records.specs.HistoryLaws.{kept_rewards}
-use Rattle.law_records.specs.Records.{plain_of, shared_of}
-use Rattle.law_records.proofs.KeptLaws.{records_keep}
-use Rattle.law_records.proofs.PassLaws.{starts_there}
-use Rattle.law_records.proofs.RecordLaws.{items_are_listed, plain_ascends}
+use Rattle.store_records.{specs.Plain.{PlainSeen, listed}, proofs.ListedLemmas.same_records}
+use Rattle.law_records.{specs.{HistoryLaws.kept_rewards, Records.{plain_of, shared_of}}, proofs.KeptLaws.records_keep}
+use Rattle.law_records.proofs.{PassLaws.starts_there, RecordLaws.{items_are_listed, plain_ascends}}
 use Rattle.law_records.proofs.RewardLists.{currents_kept, histories_kept, slashes_kept}
 use Rattle.law_records.proofs.RingLaws.{kept_signings, signings_keep, signings_told}
 use Rattle.store_loading.specs.Loaded.{kept_in}

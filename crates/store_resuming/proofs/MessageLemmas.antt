@@ -1,53 +1,34 @@
 -- Like states give to each message what is alike: states that are so again, or the same refusal.
-use Rattle.std.proofs.Common.{◌≡◌, ◌∙◌, ℕ, Bool, true, false, List, [], Option, Some, None, Result, Ok, Err, refl, sym, ap, subst}
-use Rattle.std.specs.Prelude.{IfOk, not, nat_lt, ⊤}
+use Rattle.std.proofs.Common.{◌≡◌, ◌∙◌, ℕ, Bool, true, false, List, [], Option, Some, None, Result, Ok, Err, refl, sym, ap, subst, IfOk, not, nat_lt}
+use Rattle.std.specs.Prelude.{⊤}
 use Rattle.base_decimals.specs.Decimals.{trunc_of}
-use Rattle.base_types.specs.declared.account.Account.{Account}
+use Rattle.base_types.specs.{declared.account.Account.Account, Orders.addr_cmp}
 use Rattle.base_types.specs.declared.account.Account.TheVariants as account
-use Rattle.base_types.specs.Orders.{addr_cmp}
-use Rattle.base_coins.specs.declared.coin.Coin.{Coin}
-use Rattle.base_coins.specs.Coins.{Money}
+use Rattle.base_coins.specs.{declared.coin.Coin.Coin, Coins.Money}
 use Rattle.base_shares.specs.Shares.{value_even_of}
 use Rattle.base_roles.specs.declared.facts.Fact.TheVariants as fact
-use Rattle.base_roles.specs.declared.messages.CreateValidator.{CreateValidator}
-use Rattle.base_roles.specs.declared.messages.EditValidator.{EditValidator}
-use Rattle.base_roles.specs.declared.params.Ctx.{Ctx}
-use Rattle.base_roles.specs.declared.params.Params.{Params}
-use Rattle.base_roles.specs.declared.refusal.Refusal.{Refusal}
+use Rattle.base_roles.specs.declared.messages.{CreateValidator.CreateValidator, EditValidator.EditValidator}
+use Rattle.base_roles.specs.declared.{params.{Ctx.Ctx, Params.Params}, refusal.Refusal.Refusal}
 use Rattle.base_roles.specs.declared.refusal.Refusal.TheVariants.{InsufficientFunds, ModuleRecipient, NoCommission, NoDelegation, NoSelfDelegation, NoValidator, NonPositive, NotAuthority, NotJailed, Overflow, PoolTooSmall, SelfBelowMinimum, WithdrawFixed}
-use Rattle.base_roles.specs.Entries.{at}
-use Rattle.base_roles.specs.Flow.{◌>>=◌, ◌>>◌, or_stop, stop_if, stopping}
-use Rattle.base_roles.specs.Holdings.{is_short}
-use Rattle.base_roles.specs.Log.{Log}
-use Rattle.base_roles.specs.Orders.{same_addr}
-use Rattle.base_roles.specs.Staked.{Staked, delegation, put_validator, validator_at}
+use Rattle.base_roles.specs.{Entries.at, Flow.{◌>>=◌, ◌>>◌, or_stop, stop_if, stopping}, Holdings.is_short, Log.Log}
+use Rattle.base_roles.specs.{Orders.same_addr, Staked.{Staked, delegation, put_validator, validator_at}}
 use Rattle.base_roles.specs.World.{View, Hook, Told, World, noted}
 use Rattle.base_messages.specs.declared.message.Msg.{Msg}
 use Rattle.base_messages.specs.declared.message.Msg.TheVariants as msg
-use Rattle.rule_modules.specs.Amounts.{in_units, is_empty}
-use Rattle.rule_modules.specs.BondedSet.{set_updated, validators_matured}
+use Rattle.rule_modules.specs.{Amounts.{in_units, is_empty}, BondedSet.{set_updated, validators_matured}}
 use Rattle.rule_modules.specs.Chain.{Hooks, Stakes, State, chain_told, maturing_step, set_step, staked_in}
-use Rattle.rule_modules.specs.Delegating.{delegated_by}
-use Rattle.rule_modules.specs.Distribution.{Shared, reward_renewed}
+use Rattle.rule_modules.specs.{Delegating.delegated_by, Distribution.{Shared, reward_renewed}}
 use Rattle.rule_modules.specs.Effects.{begin_redelegate, cancel_unbonding, coins_sent, community_pool_spend, create_validator, delegate, edit_validator, fund_community_pool, send, set_withdraw_address, undelegate, unjail, withdraw_commission, withdraw_reward}
-use Rattle.rule_modules.specs.Parameters.{may_update, update_params}
-use Rattle.rule_modules.specs.Purses.{is_above_pool, pool_joined}
+use Rattle.rule_modules.specs.{Parameters.{may_update, update_params}, Purses.{is_above_pool, pool_joined}}
 use Rattle.rule_modules.specs.Redelegations.{RedelegationLists, redelegated}
-use Rattle.rule_modules.specs.Unbondings.{UnbondingLists, cancelled, undelegated}
-use Rattle.rule_modules.specs.Validators.{created, edited}
+use Rattle.rule_modules.specs.{Unbondings.{UnbondingLists, cancelled, undelegated}, Validators.{created, edited}}
 use Rattle.rule_modules.specs.Window.{Window, may_leave, signing_of, unjailed}
 use Rattle.rule_modules.specs.Withdrawals.{commission_withdrawn, is_module, payee_set, pool_funded, pool_spent, reward_taken}
-use Rattle.rule_machine.specs.Messages.{effect_of}
-use Rattle.rule_machine.specs.Promises.{MessageHasCoins}
-use Rattle.law_soundness.proofs.Creating.{create_fits}
-use Rattle.law_soundness.proofs.Delegating.{delegate_fits}
-use Rattle.law_soundness.proofs.Leaving.{cancel_fits, undelegate_fits}
-use Rattle.law_soundness.proofs.Moves.{payee_fits, send_fits}
-use Rattle.law_soundness.proofs.Points.{AreAllWhole, StateFits, StateLeft}
-use Rattle.law_soundness.proofs.Pool.{commission_fits, fund_fits, spend_fits}
-use Rattle.law_soundness.proofs.Redelegating.{redelegate_fits}
-use Rattle.law_soundness.proofs.Rewards.{reward_fits}
-use Rattle.law_soundness.proofs.Standing.{edit_fits, unjail_fits}
+use Rattle.rule_machine.specs.{Messages.effect_of, Promises.MessageHasCoins}
+use Rattle.law_soundness.proofs.{Creating.create_fits, Delegating.delegate_fits, Leaving.{cancel_fits, undelegate_fits}}
+use Rattle.law_soundness.proofs.{Moves.{payee_fits, send_fits}, Points.{AreAllWhole, StateFits, StateLeft}}
+use Rattle.law_soundness.proofs.{Pool.{commission_fits, fund_fits, spend_fits}, Redelegating.redelegate_fits}
+use Rattle.law_soundness.proofs.{Rewards.reward_fits, Standing.{edit_fits, unjail_fits}}
 use Rattle.chain_modules.proofs.CarryLemmas.{cancelled_carried, carried, carried_by, carried_with, created_carried, delegated_by_carried, matured_all_carried, redelegated_carried, set_carried, undelegated_carried}
 use Rattle.store_resuming.proofs.SharedLemmas.{FourAlike, HooksAlike, SharedAlike, beside, chain_tells, renewed_alike, shared_by, with_rewards}
 use Rattle.store_resuming.proofs.SideLemmas.{AreAlike, Both, WorldsAlike, from_two, left, right, same_left, same_next_alike, same_right, same_then_alike, sides_alike, stopping_alike, then_alike, tighter_alike, two}

@@ -1,45 +1,29 @@
 -- The chain of items whose rows were loaded.
-use Rattle.std.proofs.Common.{◌≡◌, ◌≢◌, ◌∙◌, ℕ, ◌<◌, ◌≤◌, Bool, List, [], ◌∷◌, length, map, All, Option, Some, None, Result, Ok, Err, IfOk, IfSome, refl, sym, ap, subst, arith, inl, inr}
-use Rattle.std.specs.Prelude.{Contains, IsErrOf, IsSome, ⊤}
-use Rattle.std.specs.List.Sorted.{IsPermutation}
+use Rattle.std.proofs.Common.{◌≡◌, ◌≢◌, ◌∙◌, ℕ, ◌<◌, ◌≤◌, Bool, List, [], ◌∷◌, length, map, All, Option, Some, None, Result, Ok, Err, IfOk, IfSome, refl, sym, ap, subst, arith, inl, inr, Contains, IsErrOf, IsSome, IsPermutation}
+use Rattle.std.specs.Prelude.{⊤}
 use Rattle.std.proofs.lemmas.List.Sorted.{Contains-permutation, IsPermutation-map, IsPermutation-trans}
 use Rattle.sqlite_rules.specs.Lists.{Has}
-use Rattle.chain_whole.specs.Chained.{Chained}
-use Rattle.chain_whole.specs.declared.fault.ChainFault.{ChainFault}
+use Rattle.chain_whole.specs.{Chained.Chained, declared.fault.ChainFault.ChainFault}
 use Rattle.chain_whole.specs.declared.fault.ChainFault.TheVariants as faults
-use Rattle.base_io.specs.declared.keeper.Change.{Change}
-use Rattle.base_io.specs.declared.keeper.Row.{Row}
-use Rattle.base_io.specs.Rows.{Pair}
-use Rattle.base_io.specs.Changes.{IsOrdinary, Rises, pair_of}
-use Rattle.base_roles.specs.declared.entities.SigningInfo.{SigningInfo}
-use Rattle.base_roles.specs.declared.items.Item.{Item}
+use Rattle.base_io.specs.{declared.keeper.{Change.Change, Row.Row}, Rows.Pair, Changes.{IsOrdinary, Rises, pair_of}}
+use Rattle.base_roles.specs.{declared.{entities.SigningInfo.SigningInfo, items.Item.Item}, Items.{IsOnce, key_of}}
 use Rattle.base_roles.specs.declared.items.Item.TheVariants as item
-use Rattle.base_records.proofs.KindLemmas.{once-told}
-use Rattle.base_records.proofs.MemberLemmas.{once}
-use Rattle.base_roles.specs.Items.{IsOnce, key_of}
+use Rattle.base_records.proofs.{KindLemmas.once-told, MemberLemmas.once}
 use Rattle.rule_machine.specs.Items.{items_of}
 use Rattle.chain_modules.specs.Kept.{StandsFor}
-use Rattle.store_resuming.specs.Resumed.{IsResumeFault, IsStateOf}
-use Rattle.store_rows.specs.declared.fault.RowFault.{RowFault}
-use Rattle.store_rows.specs.declared.fault.RowFault.TheVariants as row
-use Rattle.store_rows.specs.declared.format.Format.{Format}
-use Rattle.store_rows.specs.declared.format.Format.TheVariants.{First, Second}
-use Rattle.store_rows.specs.Rows.{row_in}
-use Rattle.store_rows.specs.Spelled.{HasRow}
-use Rattle.store_rows.specs.Told.{format_told, window_of}
-use Rattle.store_rows.proofs.WholeLemmas.{one_to_one}
-use Rattle.rule_modules.specs.Chain.{State}
-use Rattle.rule_modules.specs.Sound.{IsSound}
-use Rattle.store_items.specs.Migrating.{AreListed, AreOld, IsMigration}
-use Rattle.store_items.specs.Stored.{AreStored}
-use Rattle.store_items.proofs.Members.{has_map, has_of, item_there, place_of, row_there, rows_rise}
-use Rattle.store_items.proofs.Told.{told_by_head}
-use Rattle.store_resuming.specs.declared.fault.RestoreFault.{RestoreFault}
-use Rattle.store_resuming.specs.declared.fault.RestoreFault.TheVariants as fault
-use Rattle.store_records.proofs.OnceLaws.{once_anyway}
+use Rattle.store_resuming.specs.{Resumed.{IsResumeFault, IsStateOf}, declared.fault.RestoreFault.RestoreFault}
 use Rattle.store_resuming.specs.Restored.{AreLoaded, AreOfNone, AreStateRows, FormatsTellTheSame, HaveSameRows, IsStorable, old_rows_of, rows_of, state_rows}
 use Rattle.store_resuming.specs.Restoring.{AreChangesFrom, AreMigrated, AreOfNoneIn, HasLongWindow, InOrder, IsChainIn, IsChainOf, IsNoChain, IsNotResumed, IsOfItems, IsOfNothing, IsRestored, IsUnrestored, UnlessFailed, not_read}
+use Rattle.store_rows.specs.declared.{fault.RowFault.RowFault, format.Format.{Format, TheVariants.{First, Second}}}
+use Rattle.store_rows.specs.{Rows.row_in, Spelled.HasRow, Told.{format_told, window_of}}
+use Rattle.store_rows.proofs.WholeLemmas.{one_to_one}
+use Rattle.store_rows.specs.declared.fault.RowFault.TheVariants as row
+use Rattle.rule_modules.specs.{Chain.State, Sound.IsSound}
+use Rattle.store_items.specs.{Migrating.{AreListed, AreOld, IsMigration}, Stored.AreStored}
+use Rattle.store_items.proofs.{Members.{has_map, has_of, item_there, place_of, row_there, rows_rise}, Told.told_by_head}
 use Rattle.store_items.proofs.Listed.{AreApart, apart_of, bytes_apart, apart_under, has_row, permuted_rows, rising_items_apart, rising_rows, rising_stored, rows_listed, rows_same, same_rows_permuted}
+use Rattle.store_resuming.specs.declared.fault.RestoreFault.TheVariants as fault
+use Rattle.store_records.proofs.OnceLaws.{once_anyway}
 
 -- no two items have one key
 own_key : (xs : List Item) → AreApart (map key_of xs) → (i j : Item) → Has xs i → Has xs j → key_of i ≡ key_of j → i ≡ j

@@ -1,34 +1,20 @@
 -- A chain out of items: of records that pass the tests, and of no others.
-use Rattle.std.proofs.Common.{◌≡◌, ◌∙◌, ◌^◌, ◌≤◌, Bool, true, false, List, [], Option, Some, None, Result, Ok, Err, refl, sym, ap, subst}
-use Rattle.std.specs.Prelude.{IfSome, IfOk, IfErr}
-use Rattle.std.specs.List.Sorted.{IsPermutation}
+use Rattle.std.proofs.Common.{◌≡◌, ◌∙◌, ◌^◌, ◌≤◌, Bool, true, false, List, [], Option, Some, None, Result, Ok, Err, refl, sym, ap, subst, IfSome, IfOk, IfErr, IsPermutation}
 use Rattle.base_roles.specs.declared.items.Item.{Item}
-use Rattle.rule_modules.specs.Chain.{State}
-use Rattle.rule_modules.specs.Sound.{IsSound}
-use Rattle.chain_modules.specs.declared.modules.Modules.{Modules}
-use Rattle.chain_modules.specs.Kept.{KeptState, Keeps, StandsFor, kept_of}
-use Rattle.chain_modules.specs.Marks.{AreAtRest}
-use Rattle.chain_modules.proofs.StandLemmas.{stands_same}
-use Rattle.store_records.specs.Gathering.{records_in}
-use Rattle.store_records.specs.Plain.{PlainSeen, AreAscending, listed}
-use Rattle.store_records.specs.States.{state_of}
+use Rattle.rule_modules.specs.{Chain.State, Sound.IsSound}
+use Rattle.chain_modules.specs.{declared.modules.Modules.Modules, Kept.{KeptState, Keeps, StandsFor, kept_of}}
+use Rattle.chain_modules.{specs.Marks.AreAtRest, proofs.StandLemmas.stands_same}
+use Rattle.store_records.specs.{Gathering.records_in, Plain.{PlainSeen, AreAscending, listed}, States.state_of}
 use Rattle.store_soundness.specs.Sound.{is_sound}
-use Rattle.law_records.specs.Coins.{AreCoins}
-use Rattle.law_records.specs.PassLaws.{AreInMemory}
-use Rattle.law_records.specs.Records.{plain_of}
-use Rattle.law_records.proofs.AgainLaws.{plain_again}
-use Rattle.law_records.proofs.AscendLaws.{records_ascend}
-use Rattle.law_records.proofs.GatheredLaws.{states_gathered}
-use Rattle.law_records.proofs.ListedLaws.{records_listed}
-use Rattle.law_records.proofs.PassLaws.{sound_records_pass, tests_make_sound}
-use Rattle.law_records.proofs.RecordLaws.{items_are_listed}
+use Rattle.law_records.{specs.{Coins.AreCoins, PassLaws.AreInMemory, Records.plain_of}, proofs.AgainLaws.plain_again}
+use Rattle.law_records.proofs.{AscendLaws.records_ascend, GatheredLaws.states_gathered, ListedLaws.records_listed}
+use Rattle.law_records.proofs.{PassLaws.{sound_records_pass, tests_make_sound}, RecordLaws.items_are_listed}
 use Rattle.store_loading.specs.Loaded.{AreLoaded, kept_in}
 use Rattle.store_resuming.proofs.KeepLaws.{keeps_records}
-use Rattle.chain_whole.specs.Chained.{Chained, chained}
-use Rattle.chain_whole.proofs.ChainLemmas.{settled_now}
-use Rattle.chain_whole.specs.declared.fault.ChainFault.{ChainFault}
-use Rattle.chain_whole.specs.declared.fault.ChainFault.TheVariants as fault
 use Rattle.store_resuming.specs.Resumed.{IsJudged, IsResumeFault, IsStateOf, IsVerdict, resumed}
+use Rattle.chain_whole.specs.{Chained.{Chained, chained}, declared.fault.ChainFault.ChainFault}
+use Rattle.chain_whole.proofs.ChainLemmas.{settled_now}
+use Rattle.chain_whole.specs.declared.fault.ChainFault.TheVariants as fault
 
 one_some : {A : Type 0} (x y : A) → ◌≡◌ {A = Option A} (Some x) (Some y) → x ≡ y
 one_some x y e = cc

@@ -1,27 +1,16 @@
 -- Rewards of which the ratios are the same where something refers to them: each rule of distribution gives of them what is so again,
 -- and the same answer.
-use Rattle.std.proofs.Common.{◌≡◌, ◌∙◌, ℕ, ◌+◌, ◌-◌, ◌^◌, ◌≤◌, ◌==◌, Bool, true, false, cond, List, [], ◌∷◌, ◌++◌, filter, nat_le, Option, Some, None, Result, Ok, Err, refl, sym, ap, subst, arith}
-use Rattle.std.specs.Prelude.{◌&&◌, if◌then◌else◌, unwrap_or}
-use Rattle.std.specs.BTreeMap.{is_at}
-use Rattle.std.specs.List.{AllByRecursion}
-use Rattle.std.specs.List.Sorted.{IsStrictlySortedBy}
-use Rattle.std.specs.Map.{keys_of}
-use Rattle.base_decimals.specs.declared.over.Over.{Over}
-use Rattle.base_decimals.specs.Decimals.{period_over}
-use Rattle.base_types.specs.Orders.{addr_cmp}
-use Rattle.base_types.proofs.MapLemmas.{ascend-put, ascend-taken, at-put, at-taken}
+use Rattle.std.proofs.Common.{◌≡◌, ◌∙◌, ℕ, ◌+◌, ◌-◌, ◌^◌, ◌≤◌, ◌==◌, Bool, true, false, cond, List, [], ◌∷◌, ◌++◌, filter, nat_le, Option, Some, None, Result, Ok, Err, refl, sym, ap, subst, arith, ◌&&◌, if◌then◌else◌, unwrap_or}
+use Rattle.std.specs.{BTreeMap.is_at, List.{AllByRecursion, Sorted.IsStrictlySortedBy}, Map.keys_of}
+use Rattle.base_decimals.specs.{declared.over.Over.Over, Decimals.period_over}
+use Rattle.base_types.{specs.Orders.addr_cmp, proofs.MapLemmas.{ascend-put, ascend-taken, at-put, at-taken}}
 use Rattle.base_coins.specs.Coins.{Money, coins_added}
-use Rattle.base_roles.specs.declared.entities.SlashEvent.{SlashEvent}
-use Rattle.base_roles.specs.declared.entities.StartingInfo.{StartingInfo}
-use Rattle.base_roles.specs.Entries.{at, with, without}
-use Rattle.base_roles.specs.Flow.{◌>>=◌, ◌>>◌, stop_if}
-use Rattle.base_roles.specs.Orders.{pair_cmp, same_addr}
+use Rattle.base_roles.specs.declared.entities.{SlashEvent.SlashEvent, StartingInfo.StartingInfo}
+use Rattle.base_roles.specs.{Entries.{at, with, without}, Flow.{◌>>=◌, ◌>>◌, stop_if}, Orders.{pair_cmp, same_addr}}
 use Rattle.rule_modules.specs.Periods.{Periods, Rewards, earned, event_recorded, falls_after, initial_records, last_ended, period_ended, periods_of, ratio_at, reward_at, slashed_stake, start_of, stretches, stretches_of, with_periods, with_start, without_periods, without_start}
-use Rattle.rule_modules.specs.Ties.{Agree}
-use Rattle.rule_modules.proofs.OperatorLemmas.{filtered_all}
+use Rattle.rule_modules.{specs.Ties.Agree, proofs.OperatorLemmas.filtered_all}
 use Rattle.rule_modules.proofs.OrderLemmas.{addr_total, pair_found, same_back, same_is, same_itself}
-use Rattle.rule_modules.proofs.SoundLemmas.{exact_pair}
-use Rattle.rule_modules.proofs.TieLemmas.{same_reward}
+use Rattle.rule_modules.proofs.{SoundLemmas.exact_pair, TieLemmas.same_reward}
 use Rattle.mod_periods.proofs.EndLemmas.{ended_with, ratio-new}
 use Rattle.law_soundness.proofs.Lists.{all_put, all_taken, joined_all, looked_up, weaker}
 use Rattle.store_resuming.proofs.SideLemmas.{AreAlike, same_next_alike, same_then_alike}

@@ -3,18 +3,13 @@ use Rattle.std.proofs.Common.{◌≡◌, ◌∙◌, ℕ, ◌-◌, List, [], ◌�
 use Rattle.base_decimals.specs.declared.over.Over.{Over}
 use Rattle.base_coins.specs.Coins.{Money, fractions, smaller_of, whole_coins}
 use Rattle.base_shares.specs.Shares.{value_cut_of, value_even_of}
-use Rattle.base_roles.specs.declared.entities.StartingInfo.{StartingInfo}
-use Rattle.base_roles.specs.declared.entities.Validator.{Validator}
-use Rattle.base_roles.specs.declared.facts.Fact.TheVariants as fact
-use Rattle.base_roles.specs.Flow.{◌>>=◌}
-use Rattle.base_roles.specs.Items.{no_purse}
-use Rattle.base_roles.specs.Log.{Log}
-use Rattle.base_roles.specs.Log as log
-use Rattle.base_roles.specs.Pair.{and_then, given_with}
+use Rattle.base_roles.specs.{declared.entities.{StartingInfo.StartingInfo, Validator.Validator}, Flow.{◌>>=◌}}
+use Rattle.base_roles.specs.{Items.no_purse, Log.Log, Pair.{and_then, given_with}}
 use Rattle.base_roles.specs.World.{View, Hook, Told, gives, exceeds, noted}
+use Rattle.base_roles.specs.declared.facts.Fact.TheVariants as fact
+use Rattle.base_roles.specs.Log as log
 use Rattle.base_roles.specs.World as hook
-use Rattle.rule_modules.specs.Amounts.{over_facts}
-use Rattle.rule_modules.specs.Chain.{Hooks, chain_told}
+use Rattle.rule_modules.specs.{Amounts.over_facts, Chain.{Hooks, chain_told}}
 use Rattle.rule_modules.specs.Distribution.{Shared, current_taken, distribution_told, ended, left_by, paid_to, payee_of, pending, records_made, records_removed, reward_due, reward_renewed, reward_withdrawn, slash_recorded, started, told_of, unlogged}
 use Rattle.rule_modules.specs.Periods.{Periods, Rewards, event_recorded, initial_records, last_ended, period_ended, periods_of, reward_at, start_of, with_periods, with_start, without_start}
 use Rattle.rule_modules.specs.Purses.{Purses, closed, paid_out, pooled_told, purse_of, with_purse}

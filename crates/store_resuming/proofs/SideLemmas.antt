@@ -1,10 +1,8 @@
 -- Two values that hooks may hold, side by side: where hooks tell of like values what is alike, rules that do not look at them do with
 -- each what they do with both, and so give what is alike.
-use Rattle.std.proofs.Common.{◌≡◌, ◌∙◌, List, [], ◌∷◌, ◌++◌, Result, Ok, Err, refl, sym, ap, subst, append-nil}
-use Rattle.std.specs.Prelude.{IfOk}
+use Rattle.std.proofs.Common.{◌≡◌, ◌∙◌, List, [], ◌∷◌, ◌++◌, Result, Ok, Err, refl, sym, ap, subst, append-nil, IfOk}
 use Rattle.base_decimals.specs.declared.over.Over.{Over}
-use Rattle.base_roles.specs.Flow.{◌>>=◌, ◌>>◌, each, stopping}
-use Rattle.base_roles.specs.Log.{Log}
+use Rattle.base_roles.specs.{Flow.{◌>>=◌, ◌>>◌, each, stopping}, Log.Log}
 use Rattle.base_roles.specs.World.{View, Hook, Told, gives, exceeds, World}
 use Rattle.chain_modules.proofs.CarryLemmas.{carried_ok, told_carried}
 

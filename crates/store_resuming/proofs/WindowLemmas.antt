@@ -1,27 +1,15 @@
 -- Signing records of which the last votes of the window are the same: votes, evidence, hooks and another window leave such ones again,
 -- and what is told of them is one.
-use Rattle.std.proofs.Common.{◌≡◌, ◌∙◌, ℕ, zero, suc, ◌+◌, ◌-◌, ◌%◌, ◌≤◌, ◌==◌, Bool, true, false, cond, List, [], ◌∷◌, ◌++◌, length, map, take, drop, Option, Some, None, Result, Ok, Err, refl, sym, ap, subst, arith}
-use Rattle.std.specs.Prelude.{◌&&◌, ◌||◌, min, not, nat_lt, reverse, if◌then◌else◌, option_map, ⊤}
-use Rattle.std.specs.BTreeMap.{insert_entry, is_at}
-use Rattle.std.specs.Ordering.{match_ordering}
-use Rattle.std.specs.declared.cmp.Ordering.{Ordering}
-use Rattle.std.specs.declared.cmp.Ordering.TheVariants.{Less, Equal, Greater}
-use Rattle.std.proofs.Math.Nat.{min-le_left}
+use Rattle.std.proofs.Common.{◌≡◌, ◌∙◌, ℕ, zero, suc, ◌+◌, ◌-◌, ◌%◌, ◌≤◌, ◌==◌, Bool, true, false, cond, List, [], ◌∷◌, ◌++◌, length, map, take, drop, Option, Some, None, Result, Ok, Err, refl, sym, ap, subst, arith, ◌&&◌, ◌||◌, min, not, nat_lt, reverse, if◌then◌else◌, option_map, Ordering, Less, Equal, Greater, take-take}
+use Rattle.std.{specs.{Prelude.⊤, BTreeMap.{insert_entry, is_at}, Ordering.match_ordering}, proofs.Math.Nat.min-le_left}
 use Rattle.std.proofs.lemmas.Bool.Decides.{nat_tests}
-use Rattle.std.proofs.lemmas.List.{take-take}
 use Rattle.base_types.specs.Orders.{cons_cmp}
-use Rattle.base_roles.specs.declared.entities.SigningInfo.{SigningInfo}
-use Rattle.base_roles.specs.declared.entities.Validator.{Validator}
-use Rattle.base_roles.specs.declared.facts.Fact.TheVariants as fact
-use Rattle.base_roles.specs.declared.messages.Evidence.{Evidence}
-use Rattle.base_roles.specs.declared.messages.Vote.{Vote}
-use Rattle.base_roles.specs.declared.params.Ctx.{Ctx}
-use Rattle.base_roles.specs.declared.refusal.Refusal.{Refusal}
-use Rattle.base_roles.specs.declared.refusal.Refusal.TheVariants.{StillJailed, Tombstoned}
-use Rattle.base_roles.specs.Entries.{with}
-use Rattle.base_roles.specs.Flow.{◌>>=◌, ◌>>◌, stop_if}
-use Rattle.base_roles.specs.Staked.{is_unbonded, validator_by_cons}
+use Rattle.base_roles.specs.declared.entities.{SigningInfo.SigningInfo, Validator.Validator}
+use Rattle.base_roles.specs.declared.{messages.{Evidence.Evidence, Vote.Vote}, params.Ctx.Ctx, refusal.Refusal.Refusal}
+use Rattle.base_roles.specs.{declared.refusal.Refusal.TheVariants.{StillJailed, Tombstoned}, Entries.with}
+use Rattle.base_roles.specs.{Flow.{◌>>=◌, ◌>>◌, stop_if}, Staked.{is_unbonded, validator_by_cons}}
 use Rattle.base_roles.specs.World.{View, Hook, World}
+use Rattle.base_roles.specs.declared.facts.Fact.TheVariants as fact
 use Rattle.base_roles.specs.World as hook
 use Rattle.rule_modules.specs.Amounts.{count_where}
 use Rattle.rule_modules.specs.Evidence.{banned, banned_of, equivocation_handled, evidence_weighed, forever, is_too_old, window_bans}

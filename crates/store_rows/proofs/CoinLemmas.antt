@@ -1,20 +1,9 @@
 -- Coins that stand in order are the list of coins that they make.
-use Rattle.std.proofs.Common.{◌≡◌, ℕ, true, false, List, [], ◌∷◌, refl, arith}
-use Rattle.std.specs.Prelude.{◌==◌, nat_lt}
-use Rattle.std.specs.declared.cmp.Ordering.{Ordering}
-use Rattle.std.specs.declared.cmp.Ordering.TheVariants.{Less, Equal, Greater}
-use Rattle.std.specs.BTreeMap.{insert_entry}
-use Rattle.std.specs.List.{AllByRecursion}
-use Rattle.std.specs.List.Sorted.{IsStrictlySortedBy}
-use Rattle.std.specs.Map.{keys_of}
-use Rattle.std.specs.Ordering.{is_lt}
-use Rattle.std.proofs.lemmas.Bool.{and_parts}
-use Rattle.std.proofs.lemmas.Bool.Decides.{nat_tests}
-use Rattle.std.proofs.lemmas.List.Sorted.{IsPermutation-refl}
+use Rattle.std.proofs.Common.{◌≡◌, ℕ, true, false, List, [], ◌∷◌, refl, arith, ◌==◌, nat_lt, Ordering, Less, Equal, Greater, is_lt}
+use Rattle.std.specs.{BTreeMap.insert_entry, List.{AllByRecursion, Sorted.IsStrictlySortedBy}, Map.keys_of}
+use Rattle.std.proofs.lemmas.{Bool.{and_parts, Decides.nat_tests}, List.Sorted.IsPermutation-refl}
 use Rattle.base_types.specs.Orders.{denom_cmp}
-use Rattle.base_coins.specs.Coins.{Money, sorted_coins, stands_twice}
-use Rattle.base_coins.proofs.Order.{total}
-use Rattle.base_coins.proofs.Sorting.{kept_once}
+use Rattle.base_coins.{specs.Coins.{Money, sorted_coins, stands_twice}, proofs.{Order.total, Sorting.kept_once}}
 use Rattle.store_rows.specs.Reading.{comes_before, is_in_order}
 
 less_is : (o : Ordering) → is_lt o ≡ true → o ≡ Less

@@ -1,30 +1,20 @@
 -- Lists of coins and accounts are read as they are spelled.
-use Rattle.std.proofs.Common.{◌≡◌, ◌∙◌, ℕ, zero, suc, ◌^◌, ◌<◌, Bool, true, false, cond, List, [], ◌∷◌, ◌++◌, length, replicate, Some, None, Option, Ok, Err, refl, sym, ap, subst, arith}
-use Rattle.std.specs.Prelude.{nat_lt}
-use Rattle.std.specs.List.{AllByRecursion}
-use Rattle.std.specs.List.Sorted.{IsStrictlySortedBy}
-use Rattle.std.specs.Map.{keys_of}
-use Rattle.std.specs.Ordering.{is_lt}
-use Rattle.std.proofs.lemmas.Bool.{and_from, and_parts, ltb-true, lt-ltb}
-use Rattle.std.proofs.lemmas.List.Elements.{All-from_recursion, recursion_from_All}
-use Rattle.base_types.specs.declared.account.Account.{Account}
-use Rattle.base_types.specs.declared.account.Account.TheVariants as account
-use Rattle.base_types.specs.declared.account.Module.{Module}
+use Rattle.std.proofs.Common.{◌≡◌, ◌∙◌, ℕ, zero, suc, ◌^◌, ◌<◌, Bool, true, false, cond, List, [], ◌∷◌, ◌++◌, length, replicate, Some, None, Option, Ok, Err, refl, sym, ap, subst, arith, nat_lt, is_lt, ltb-true, lt-ltb}
+use Rattle.std.specs.{List.{AllByRecursion, Sorted.IsStrictlySortedBy}, Map.keys_of}
+use Rattle.std.proofs.lemmas.{Bool.{and_from, and_parts}, List.Elements.{All-from_recursion, recursion_from_All}}
+use Rattle.base_types.specs.declared.account.{Account.Account, Module.Module}
 use Rattle.base_types.specs.declared.account.Module.TheVariants.{FeeCollector, Bonded, NotBonded, Distribution}
-use Rattle.base_types.specs.Accounts.{account_bytes, account_from, user_or_module}
-use Rattle.base_types.specs.Modules.{module_bytes, module_of}
+use Rattle.base_types.specs.{Accounts.{account_bytes, account_from, user_or_module}, Modules.{module_bytes, module_of}}
 use Rattle.base_types.specs.Orders.{denom_cmp}
 use Rattle.base_types.proofs.AccountLemmas.{account_bytes-account_from, account_from-module_bytes}
-use Rattle.base_coins.specs.Coins.{Money, IsMoney}
-use Rattle.base_coins.specs.Steps.{◌>>=◌}
+use Rattle.base_types.specs.declared.account.Account.TheVariants as account
+use Rattle.base_coins.specs.{Coins.{Money, IsMoney}, Steps.{◌>>=◌}}
 use Rattle.store_rows.specs.declared.fault.RowFault.TheVariants.{BadRow}
 use Rattle.store_rows.specs.Fields.{coin_bytes, coins_bytes, denom_bytes, sixteen_bytes}
 use Rattle.store_rows.specs.Reading.{account_at, bytes_at, coin_at, coins_at, comes_before, decimal_at, denom_at, is_in_order, list_at}
-use Rattle.store_rows.specs.Spelled.{AreCoins, IsAccount, IsCountable, IsDecimal, IsName}
-use Rattle.store_rows.proofs.CoinLemmas.{ascends}
+use Rattle.store_rows.{specs.Spelled.{AreCoins, IsAccount, IsCountable, IsDecimal, IsName}, proofs.CoinLemmas.ascends}
 use Rattle.store_rows.proofs.ReadsLemmas.{IsBytes, Reads, bind_is, bind_ok, field, last, ok_is, told}
-use Rattle.store_rows.proofs.NumberLemmas.{bytes_read}
-use Rattle.store_rows.proofs.ValueLemmas.{decimal_reads, denom_reads, list_reads}
+use Rattle.store_rows.proofs.{NumberLemmas.bytes_read, ValueLemmas.{decimal_reads, denom_reads, list_reads}}
 
 abbrev IsCoin : List ℕ × ℕ → Type 0
 IsCoin c = IsName c.0 × IsDecimal c.1

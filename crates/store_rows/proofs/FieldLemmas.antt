@@ -1,7 +1,6 @@
 -- What is known of the values of fields.
 use Rattle.std.proofs.Common.{◌≡◌, ℕ, zero, suc, ◌≤◌, ◌<◌, ◌^◌, true, List, ◌++◌, length, append_assoc, arith}
-use Rattle.base_types.specs.Denom.{is_denom}
-use Rattle.base_types.proofs.DenomLemmas.{length-denom}
+use Rattle.base_types.{specs.Denom.is_denom, proofs.DenomLemmas.length-denom}
 
 -- the length of a denomination is one byte
 pub names_are_short : (name : List ℕ) → is_denom name ≡ true → length name < 256

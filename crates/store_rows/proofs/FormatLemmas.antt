@@ -1,14 +1,11 @@
 -- The items of which the row is the same in both formats.
-use Rattle.std.proofs.Common.{◌≡◌, ◌∙◌, ℕ, zero, suc, ◌+◌, ◌*◌, ◌≤◌, ◌<◌, Bool, true, false, List, [], ◌∷◌, ◌++◌, length, take, drop, replicate, refl, sym, ap, ap₂, arith}
-use Rattle.std.specs.List.{flat_map}
+use Rattle.std.proofs.Common.{◌≡◌, ◌∙◌, ℕ, zero, suc, ◌+◌, ◌*◌, ◌≤◌, ◌<◌, Bool, true, false, List, [], ◌∷◌, ◌++◌, length, take, drop, replicate, refl, sym, ap, ap₂, arith, flat_map}
 use Rattle.base_io.specs.Rows.{Pair}
 use Rattle.base_roles.specs.declared.items.Item.{Item}
 use Rattle.base_roles.specs.declared.items.Item.TheVariants as item
 use Rattle.store_rows.specs.declared.format.Format.TheVariants.{First, Second}
 use Rattle.store_rows.specs.Fields.{four_bytes, list_bytes, missed_of, missed_ring_bytes, packed, packed_len, packed_ring_bytes, places_byte}
-use Rattle.store_rows.specs.Alike.{IsAlike}
-use Rattle.store_rows.specs.Rows.{info_bytes, key_bytes, row_in}
-use Rattle.store_rows.proofs.MissedLemmas.{none_missed}
+use Rattle.store_rows.{specs.{Alike.IsAlike, Rows.{info_bytes, key_bytes, row_in}}, proofs.MissedLemmas.none_missed}
 
 -- a byte of signed places
 byte_signed : (k n : ℕ) → places_byte (take k (replicate n false)) ≡ 0

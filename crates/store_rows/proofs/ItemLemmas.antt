@@ -1,33 +1,17 @@
 -- Items are read from the rows that they have, and from no other.
-use Rattle.std.proofs.Common.{◌≡◌, ◌∙◌, ℕ, zero, suc, ◌<◌, Bool, true, false, cond, eqb, List, [], ◌∷◌, ◌++◌, length, Result, Ok, Err, refl, sym, ap, subst, arith}
-use Rattle.std.specs.Prelude.{⊤}
-use Rattle.std.specs.Int.{w64, w128}
-use Rattle.std.specs.List.{AllByRecursion}
-use Rattle.std.proofs.lemmas.Bool.{eqb-true}
-use Rattle.std.proofs.lemmas.Bool.Decides.{nat_tests}
-use Rattle.std.proofs.lemmas.List.{append-nil, nil_from_length}
-use Rattle.base_types.specs.declared.account.Account.{Account}
-use Rattle.base_types.specs.Accounts.{account_bytes}
-use Rattle.base_types.specs.Address.{IsAddress}
-use Rattle.base_coins.specs.Coins.{Money}
-use Rattle.base_coins.specs.Steps.{◌>>=◌}
-use Rattle.base_roles.specs.declared.items.Item.{Item}
-use Rattle.base_roles.specs.declared.items.Item.TheVariants as item
-use Rattle.base_roles.specs.declared.params.Params.{Params}
-use Rattle.base_roles.specs.declared.entities.Historical.{Historical}
-use Rattle.base_roles.specs.declared.entities.Purse.{Purse}
-use Rattle.base_roles.specs.declared.entities.RedelegationEntry.{RedelegationEntry}
-use Rattle.base_roles.specs.declared.entities.SigningInfo.{SigningInfo}
-use Rattle.base_roles.specs.declared.entities.SlashEvent.{SlashEvent}
-use Rattle.base_roles.specs.declared.entities.StartingInfo.{StartingInfo}
-use Rattle.base_roles.specs.declared.entities.UnbondingEntry.{UnbondingEntry}
+use Rattle.std.proofs.Common.{◌≡◌, ◌∙◌, ℕ, zero, suc, ◌<◌, Bool, true, false, cond, eqb, List, [], ◌∷◌, ◌++◌, length, Result, Ok, Err, refl, sym, ap, subst, arith, w64, eqb-true, append-nil}
+use Rattle.std.{specs.{Prelude.⊤, Int.w128, List.AllByRecursion}, proofs.lemmas.Bool.Decides.nat_tests}
+use Rattle.std.proofs.lemmas.List.{nil_from_length}
+use Rattle.base_types.specs.{declared.account.Account.Account, Accounts.account_bytes, Address.IsAddress}
+use Rattle.base_coins.specs.{Coins.Money, Steps.{◌>>=◌}}
+use Rattle.base_roles.specs.declared.{items.Item.Item, params.Params.Params, entities.Historical.Historical}
+use Rattle.base_roles.specs.declared.entities.{Purse.Purse, RedelegationEntry.RedelegationEntry}
+use Rattle.base_roles.specs.declared.entities.{SigningInfo.SigningInfo, SlashEvent.SlashEvent}
+use Rattle.base_roles.specs.declared.entities.{StartingInfo.StartingInfo, UnbondingEntry.UnbondingEntry}
 use Rattle.base_roles.specs.declared.entities.Validator.{Validator}
-use Rattle.store_rows.specs.declared.fault.RowFault.{RowFault}
-use Rattle.store_rows.specs.declared.fault.RowFault.TheVariants.{BadRow}
-use Rattle.store_rows.specs.declared.format.Format.{Format}
-use Rattle.store_rows.specs.declared.format.Format.TheVariants.{First, Second}
-use Rattle.store_rows.specs.declared.kind.Kind.{Kind}
-use Rattle.store_rows.specs.declared.kind.Kind.TheVariants as kind
+use Rattle.base_roles.specs.declared.items.Item.TheVariants as item
+use Rattle.store_rows.specs.declared.{fault.RowFault.{RowFault, TheVariants.BadRow}, format.Format.Format}
+use Rattle.store_rows.specs.declared.{format.Format.TheVariants.{First, Second}, kind.Kind.Kind}
 use Rattle.store_rows.specs.Fields.{coins_bytes, denom_bytes, eight_bytes, list_bytes, ring_bytes, sixteen_bytes}
 use Rattle.store_rows.specs.Formats.{number_of}
 use Rattle.store_rows.specs.Rows.{kind_in, key_fields, value_in, history_bytes, info_bytes, params_bytes, purse_bytes, redelegation_bytes, starting_bytes, unbonding_bytes, validator_bytes}
@@ -36,10 +20,9 @@ use Rattle.store_rows.specs.Spelled.{AreCoins, AreParams, HasRow, IsAccount, IsC
 use Rattle.store_rows.proofs.ReadsLemmas.{IsBytes, Reads, bind_is, bind_ok, ok_is}
 use Rattle.store_rows.proofs.NumberLemmas.{eight_read, sixteen_read}
 use Rattle.store_rows.proofs.RecordLemmas.{info_reads, params_reads, redelegation_reads, unbonding_reads, validator_reads}
-use Rattle.store_rows.proofs.CoinReads.{account_reads, coins_reads}
-use Rattle.store_rows.proofs.MissedReads.{ring_reads}
-use Rattle.store_rows.proofs.RingReads.{passed}
+use Rattle.store_rows.proofs.{CoinReads.{account_reads, coins_reads}, MissedReads.ring_reads, RingReads.passed}
 use Rattle.store_rows.proofs.ValueLemmas.{cons_reads, decimal_reads, denom_reads, list_reads, moment_reads, user_reads}
+use Rattle.store_rows.specs.declared.kind.Kind.TheVariants as kind
 
 nothing_left : (rest : List ℕ) (u : ⊤) → ends rest ≡ Ok u → rest ≡ []
 nothing_left rest u e = nil_from_length rest (go (eqb (length rest) 0) refl e)

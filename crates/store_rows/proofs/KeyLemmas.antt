@@ -1,26 +1,18 @@
 -- The keys of rows are one to one with those of items.
-use Rattle.std.proofs.Common.{◌≡◌, ◌∙◌, ℕ, List, [], ◌∷◌, ◌++◌, Some, Result, Ok, refl, sym, ap}
-use Rattle.std.specs.Int.{w64}
-use Rattle.base_types.specs.Accounts.{account_bytes}
-use Rattle.base_types.specs.Address.{IsAddress}
+use Rattle.std.proofs.Common.{◌≡◌, ◌∙◌, ℕ, List, [], ◌∷◌, ◌++◌, Some, Result, Ok, refl, sym, ap, w64}
+use Rattle.base_types.specs.{Accounts.account_bytes, Address.IsAddress}
 use Rattle.base_coins.specs.Steps.{◌>>=◌}
 use Rattle.base_roles.specs.declared.items.Item.{Item}
-use Rattle.base_roles.specs.declared.items.Item.TheVariants as item
 use Rattle.base_roles.specs.Items.{key_of, no_address, no_info, no_params, no_purse, no_validator}
-use Rattle.store_rows.specs.declared.fault.RowFault.{RowFault}
-use Rattle.store_rows.specs.declared.kind.Kind.{Kind}
-use Rattle.store_rows.specs.declared.kind.Kind.TheVariants as kind
-use Rattle.store_rows.specs.Fields.{denom_bytes, eight_bytes}
-use Rattle.store_rows.specs.Kinds.{kind_of, prefix_of}
-use Rattle.store_rows.specs.Rows.{key_bytes, key_fields, kind_in}
+use Rattle.base_roles.specs.declared.items.Item.TheVariants as item
+use Rattle.store_rows.specs.{declared.{fault.RowFault.RowFault, kind.Kind.Kind}, Fields.{denom_bytes, eight_bytes}}
+use Rattle.store_rows.specs.{Kinds.{kind_of, prefix_of}, Rows.{key_bytes, key_fields, kind_in}}
 use Rattle.store_rows.specs.Reading.{account_at, bytes_at, denom_at, ends, number_at, user_at, user_of, users_of}
 use Rattle.store_rows.specs.Spelled.{HasRow, IsKeyInRange, IsName, IsShort, IsUser}
-use Rattle.store_rows.proofs.ReadsLemmas.{bind_is, ok_is}
-use Rattle.store_rows.proofs.NumberLemmas.{eight_read}
-use Rattle.store_rows.proofs.CoinReads.{account_reads}
+use Rattle.store_rows.proofs.{ReadsLemmas.{bind_is, ok_is}, NumberLemmas.eight_read, CoinReads.account_reads}
 use Rattle.store_rows.proofs.ValueLemmas.{cons_reads, denom_reads, user_reads}
-use Rattle.store_rows.proofs.ItemLemmas.{ended_again, user_again, users_again}
-use Rattle.store_rows.proofs.WholeLemmas.{kind_again}
+use Rattle.store_rows.proofs.{ItemLemmas.{ended_again, user_again, users_again}, WholeLemmas.kind_again}
+use Rattle.store_rows.specs.declared.kind.Kind.TheVariants as kind
 
 -- the key of an item of this kind, from the fields of a row's key
 abbrev key_in : Kind → List ℕ → Result Item RowFault

@@ -1,12 +1,9 @@
 -- Elements read and written one after the other, as a loop does.
-use Rattle.std.proofs.Common.{◌≡◌, ℕ, suc, ◌-◌, ◌+◌, ◌≤◌, ◌<◌, List, [], ◌∷◌, ◌++◌, length, get_or, take, map, Result, Ok, Err, refl, sym, ap, ap₂, subst, ◌∙◌, append_assoc, arith}
-use Rattle.std.specs.List.{AllByRecursion, flat_map}
-use Rattle.std.proofs.lemmas.List.{append-nil, flat_map_more, length-map, take_all, take_more}
+use Rattle.std.proofs.Common.{◌≡◌, ℕ, suc, ◌-◌, ◌+◌, ◌≤◌, ◌<◌, List, [], ◌∷◌, ◌++◌, length, get_or, take, map, Result, Ok, Err, refl, sym, ap, ap₂, subst, ◌∙◌, append_assoc, arith, flat_map, append-nil, take_all}
+use Rattle.std.{specs.List.AllByRecursion, proofs.lemmas.List.{flat_map_more, length-map, take_more}}
 use Rattle.std.proofs.lemmas.List.Folds.{flat_map-map}
-use Rattle.store_rows.specs.declared.fault.RowFault.{RowFault}
-use Rattle.store_rows.specs.declared.fault.RowFault.TheVariants.{BadRow, NoMemory}
-use Rattle.store_rows.specs.Fields.{four_bytes, list_bytes}
-use Rattle.store_rows.specs.Reading.{Fails, with_front, each_at}
+use Rattle.store_rows.specs.declared.fault.RowFault.{RowFault, TheVariants.{BadRow, NoMemory}}
+use Rattle.store_rows.specs.{Fields.{four_bytes, list_bytes}, Reading.{Fails, with_front, each_at}}
 
 module _ {A : Type 0} (form : List ℕ → Result (A × List ℕ) RowFault) where
   regroup : (front : List A) (x : A) (read : Result (List A × List ℕ) RowFault) → with_front front (with_front (x ∷ []) read) ≡ with_front (front ++ x ∷ []) read

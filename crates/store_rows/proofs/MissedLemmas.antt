@@ -1,11 +1,9 @@
 -- The missed places of a window, and the window that they make.
-use Rattle.std.proofs.Common.{◌≡◌, ◌∙◌, ℕ, zero, suc, ◌+◌, ◌-◌, ◌<◌, ◌≤◌, ltb, leb, Bool, true, false, List, [], ◌∷◌, ◌++◌, length, get_or, take, drop, replicate, refl, sym, ap, ap₂, append_assoc, arith}
-use Rattle.std.specs.List.{AllByRecursion, flat_map}
-use Rattle.std.proofs.lemmas.Bool.{and_from, and_parts, le-leb, leb-true, lt-ltb, ltb-true}
-use Rattle.std.proofs.lemmas.List.{append-nil, drop_all, drop_more, length-append, length-replicate, length-take, replicate_more, take_all, take_more}
+use Rattle.std.proofs.Common.{◌≡◌, ◌∙◌, ℕ, zero, suc, ◌+◌, ◌-◌, ◌<◌, ◌≤◌, ltb, leb, Bool, true, false, List, [], ◌∷◌, ◌++◌, length, get_or, take, drop, replicate, refl, sym, ap, ap₂, append_assoc, arith, flat_map, le-leb, leb-true, lt-ltb, ltb-true, append-nil, length-append, length-take, take_all}
+use Rattle.std.{specs.List.AllByRecursion, proofs.lemmas.Bool.{and_from, and_parts}}
+use Rattle.std.proofs.lemmas.List.{drop_all, drop_more, length-replicate, replicate_more, take_more}
 use Rattle.std.proofs.lemmas.Grind.{flat_map-append}
-use Rattle.store_rows.specs.Fields.{four_bytes, missed_from, missed_of}
-use Rattle.store_rows.specs.Reading.{are_places, comes_next, places_with}
+use Rattle.store_rows.specs.{Fields.{four_bytes, missed_from, missed_of}, Reading.{are_places, comes_next, places_with}}
 
 -- ---- the missed places of a window
 

@@ -1,18 +1,13 @@
 -- A ring in the second format is read as it is spelled, and so is one in either format.
-use Rattle.std.proofs.Common.{◌≡◌, ◌∙◌, ℕ, ◌^◌, ◌<◌, ◌≤◌, Bool, true, false, cond, List, ◌++◌, length, Ok, Err, refl, sym, ap, ap₂, subst, append_assoc, arith}
-use Rattle.std.specs.Int.{w32}
+use Rattle.std.proofs.Common.{◌≡◌, ◌∙◌, ℕ, ◌^◌, ◌<◌, ◌≤◌, Bool, true, false, cond, List, ◌++◌, length, Ok, Err, refl, sym, ap, ap₂, subst, append_assoc, arith, w32}
 use Rattle.base_coins.specs.Steps.{◌>>=◌}
-use Rattle.store_rows.specs.declared.fault.RowFault.TheVariants.{BadRow}
-use Rattle.store_rows.specs.declared.format.Format.{Format}
+use Rattle.store_rows.specs.declared.{fault.RowFault.TheVariants.BadRow, format.Format.Format}
 use Rattle.store_rows.specs.declared.format.Format.TheVariants.{First, Second}
 use Rattle.store_rows.specs.Fields.{four_bytes, list_bytes, missed_of, missed_ring_bytes, ring_bytes}
 use Rattle.store_rows.specs.Reading.{are_places, list_at, missed_ring_at, number_at, places_with, ring_at}
-use Rattle.store_rows.specs.Spelled.{IsCountable}
-use Rattle.store_rows.proofs.ReadsLemmas.{IsBytes, Reads, bind_is, bind_ok, ok_is}
+use Rattle.store_rows.{specs.Spelled.IsCountable, proofs.ReadsLemmas.{IsBytes, Reads, bind_is, bind_ok, ok_is}}
 use Rattle.store_rows.proofs.MissedLemmas.{missed_below, missed_few, window_again, window_taken}
-use Rattle.store_rows.proofs.NumberLemmas.{four_read}
-use Rattle.store_rows.proofs.RingReads.{packed_ring_reads, passed}
-use Rattle.store_rows.proofs.ValueLemmas.{list_reads}
+use Rattle.store_rows.proofs.{NumberLemmas.four_read, RingReads.{packed_ring_reads, passed}, ValueLemmas.list_reads}
 
 missed_ring_reads : Reads missed_ring_at missed_ring_bytes IsCountable
 unfolding missed_ring_at

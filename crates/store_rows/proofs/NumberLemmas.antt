@@ -1,13 +1,10 @@
 -- Numbers and addresses are read as they are spelled.
-use Rattle.std.proofs.Common.{◌≡◌, ◌∙◌, ℕ, ◌+◌, ◌*◌, ◌/◌, ◌%◌, ◌^◌, ◌<◌, ◌≤◌, Bool, true, false, cond, ltb, List, [], ◌∷◌, ◌++◌, length, take, drop, Ok, Err, refl, sym, ap, ap₂, subst, arith, inl, inr}
-use Rattle.std.specs.Int.{Width, w32, w64, w128, byte_len, from_be_bytes, to_be_bytes}
-use Rattle.std.proofs.lemmas.Bool.{cases_lt, ltb-false, le-ltb}
-use Rattle.std.proofs.Math.Nat.{div-div-eq-div-mul}
-use Rattle.std.proofs.lemmas.List.{take_at, drop_at, take-append-drop, length-append, length-take, get_or-drop, get_or-take, get_or_past}
+use Rattle.std.proofs.Common.{◌≡◌, ◌∙◌, ℕ, ◌+◌, ◌*◌, ◌/◌, ◌%◌, ◌^◌, ◌<◌, ◌≤◌, Bool, true, false, cond, ltb, List, [], ◌∷◌, ◌++◌, length, take, drop, Ok, Err, refl, sym, ap, ap₂, subst, arith, inl, inr, w32, w64, ltb-false, le-ltb, take_at, drop_at, take-append-drop, length-append, length-take, get_or-drop, get_or-take}
+use Rattle.std.{specs.Int.{Width, w128, byte_len, from_be_bytes, to_be_bytes}, proofs.lemmas.Bool.cases_lt}
+use Rattle.std.proofs.{Math.Nat.div-div-eq-div-mul, lemmas.List.get_or_past}
 use Rattle.std.proofs.lemmas.Nat.{be_bytes_4, be_bytes_8, from_be_bytes-to_be_bytes_4, from_be_bytes-to_be_bytes_8}
 use Rattle.store_rows.specs.declared.fault.RowFault.TheVariants.{BadRow}
-use Rattle.store_rows.specs.Fields.{eight_bytes, four_bytes, sixteen_bytes}
-use Rattle.store_rows.specs.Reading.{number_at, bytes_at}
+use Rattle.store_rows.specs.{Fields.{eight_bytes, four_bytes, sixteen_bytes}, Reading.{number_at, bytes_at}}
 use Rattle.store_rows.proofs.ReadsLemmas.{IsBytes, Reads}
 
 pub IsBytes-drop : (n : ℕ) (bytes : List ℕ) → IsBytes bytes → IsBytes (drop n bytes)

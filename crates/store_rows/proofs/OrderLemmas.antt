@@ -1,23 +1,14 @@
 -- The bytes of keys are in the order of their fields.
-use Rattle.std.proofs.Common.{◌≡◌, ◌∙◌, ℕ, zero, suc, ◌/◌, ◌%◌, ◌^◌, ◌<◌, List, [], ◌∷◌, ◌++◌, length, refl, sym, ap, ap₂, arith}
-use Rattle.std.specs.Int.{byte_at, bytes_high_first}
-use Rattle.std.specs.declared.cmp.Ordering.{Ordering}
-use Rattle.std.specs.declared.cmp.Ordering.TheVariants.{Less, Equal, Greater}
-use Rattle.std.specs.Ordering.{MatchOrdering, nat_cmp, ordering_then}
-use Rattle.std.specs.Cmp.{nat_cmp_is}
-use Rattle.std.proofs.lemmas.Cmp.{ranked}
-use Rattle.std.proofs.Math.Nat.{div-div-eq-div-mul, pow-suc}
+use Rattle.std.proofs.Common.{◌≡◌, ◌∙◌, ℕ, zero, suc, ◌/◌, ◌%◌, ◌^◌, ◌<◌, List, [], ◌∷◌, ◌++◌, length, refl, sym, ap, ap₂, arith, Ordering, Less, Equal, Greater, nat_cmp}
+use Rattle.std.specs.{Int.{byte_at, bytes_high_first}, Ordering.{MatchOrdering, ordering_then}, Cmp.nat_cmp_is}
+use Rattle.std.proofs.{lemmas.Cmp.ranked, Math.Nat.{div-div-eq-div-mul, pow-suc}}
 use Rattle.base_types.specs.Accounts.{account_bytes}
 use Rattle.base_io.specs.Rows.{key_cmp}
 use Rattle.base_roles.specs.declared.items.Item.{Item}
 use Rattle.base_roles.specs.declared.items.Item.TheVariants as item
-use Rattle.store_rows.specs.Kinds.{prefix_of}
-use Rattle.store_rows.specs.Fields.{denom_bytes, eight_bytes}
-use Rattle.store_rows.specs.Order.{fields_cmp, item_cmp}
-use Rattle.store_rows.specs.Rows.{key_bytes, key_fields, kind_in}
-use Rattle.store_rows.specs.Spelled.{HasRow, IsShort, IsUser}
-use Rattle.store_rows.proofs.CoinReads.{twenty}
-use Rattle.store_rows.proofs.KeyLemmas.{same_kind}
+use Rattle.store_rows.specs.{Kinds.prefix_of, Fields.{denom_bytes, eight_bytes}, Order.{fields_cmp, item_cmp}}
+use Rattle.store_rows.specs.{Rows.{key_bytes, key_fields, kind_in}, Spelled.{HasRow, IsShort, IsUser}}
+use Rattle.store_rows.proofs.{CoinReads.twenty, KeyLemmas.same_kind}
 
 then_assoc : (a b c : Ordering) → ordering_then (ordering_then a b) c ≡ ordering_then a (ordering_then b c)
 then_assoc Less b c = refl

@@ -1,11 +1,8 @@
 -- Places taken from bytes, and packed into bytes, one after the other as a loop does.
-use Rattle.std.proofs.Common.{◌≡◌, ◌∙◌, ℕ, suc, ◌+◌, ◌-◌, ◌/◌, ◌%◌, ◌^◌, ◌<◌, ◌≤◌, min, inl, inr, Bool, true, false, not, cond, eqb, List, [], ◌∷◌, ◌++◌, length, get_or, take, drop, Result, Ok, Err, refl, sym, ap, ap₂, append_assoc, arith}
-use Rattle.std.proofs.lemmas.Bool.{cases_lt}
-use Rattle.std.proofs.lemmas.List.{append-nil, drop_all, drop_more, length-drop, take_all}
-use Rattle.store_rows.specs.declared.fault.RowFault.{RowFault}
-use Rattle.store_rows.specs.declared.fault.RowFault.TheVariants.{BadRow}
-use Rattle.store_rows.specs.Fields.{packed, packed_len, places_byte}
-use Rattle.store_rows.specs.Reading.{places_in, places_of, with_places}
+use Rattle.std.proofs.Common.{◌≡◌, ◌∙◌, ℕ, suc, ◌+◌, ◌-◌, ◌/◌, ◌%◌, ◌^◌, ◌<◌, ◌≤◌, min, inl, inr, Bool, true, false, not, cond, eqb, List, [], ◌∷◌, ◌++◌, length, get_or, take, drop, Result, Ok, Err, refl, sym, ap, ap₂, append_assoc, arith, append-nil, length-drop, take_all}
+use Rattle.std.proofs.lemmas.{Bool.cases_lt, List.{drop_all, drop_more}}
+use Rattle.store_rows.specs.declared.fault.RowFault.{RowFault, TheVariants.BadRow}
+use Rattle.store_rows.specs.{Fields.{packed, packed_len, places_byte}, Reading.{places_in, places_of, with_places}}
 
 -- one more place of a byte
 pub place_on : (front : List Bool) (count i byte : ℕ) (total : List Bool) → i < count → front ++ places_in (count - i) byte ≡ total

@@ -1,8 +1,7 @@
 -- A reader of a form reads what is spelled so, and what it reads was spelled so. Readers one after the other do the same.
 use Rattle.std.proofs.Common.{◌≡◌, ◌∙◌, ℕ, ◌<◌, List, ◌++◌, get_or, Result, Ok, Err, refl, sym, ap, subst, append_assoc}
 use Rattle.base_coins.specs.Steps.{◌>>=◌}
-use Rattle.store_rows.specs.declared.fault.RowFault.{RowFault}
-use Rattle.store_rows.specs.declared.fault.RowFault.TheVariants.{BadRow, NoMemory}
+use Rattle.store_rows.specs.declared.fault.RowFault.{RowFault, TheVariants.{BadRow, NoMemory}}
 use Rattle.store_rows.specs.Reading.{Gives, IsRead}
 
 abbrev pub IsBytes : List ℕ → Type 0

@@ -1,20 +1,16 @@
 -- Records are read as they are spelled, field by field.
-use Rattle.std.proofs.Common.{◌≡◌, ℕ, List, [], ◌∷◌, ◌++◌, Ok, refl}
-use Rattle.std.specs.Int.{w64, w128}
+use Rattle.std.proofs.Common.{◌≡◌, ℕ, List, [], ◌∷◌, ◌++◌, Ok, refl, w64}
+use Rattle.std.specs.Int.{w128}
 use Rattle.base_types.specs.Address.{IsAddress}
 use Rattle.base_coins.specs.Steps.{◌>>=◌}
-use Rattle.base_roles.specs.declared.entities.Commission.{Commission}
-use Rattle.base_roles.specs.declared.entities.RedelegationEntry.{RedelegationEntry}
-use Rattle.base_roles.specs.declared.entities.SigningInfo.{SigningInfo}
-use Rattle.base_roles.specs.declared.entities.UnbondingEntry.{UnbondingEntry}
-use Rattle.base_roles.specs.declared.entities.Validator.{Validator}
-use Rattle.base_roles.specs.declared.params.Params.{Params}
+use Rattle.base_roles.specs.declared.entities.{Commission.Commission, RedelegationEntry.RedelegationEntry}
+use Rattle.base_roles.specs.declared.entities.{SigningInfo.SigningInfo, UnbondingEntry.UnbondingEntry}
+use Rattle.base_roles.specs.declared.{entities.Validator.Validator, params.Params.Params}
 use Rattle.store_rows.specs.Fields.{denom_bytes, eight_bytes, sixteen_bytes, status_byte, truth_byte}
 use Rattle.store_rows.specs.Rows.{commission_bytes, info_bytes, params_bytes, redelegation_bytes, unbonding_bytes, validator_bytes}
 use Rattle.store_rows.specs.Reading.{bytes_at, number_at, decimal_at, denom_at, moment_at, status_at, truth_at, user_at, commission_at, info_at, params_at, redelegation_at, unbonding_at, validator_at}
 use Rattle.store_rows.specs.Spelled.{AreParams, IsCommission, IsDecimal, IsInfo, IsLong, IsMoment, IsName, IsRedelegation, IsShort, IsUnbonding, IsUser}
-use Rattle.store_rows.proofs.ReadsLemmas.{Reads, field, last, told}
-use Rattle.store_rows.proofs.NumberLemmas.{eight_read, sixteen_read}
+use Rattle.store_rows.proofs.{ReadsLemmas.{Reads, field, last, told}, NumberLemmas.{eight_read, sixteen_read}}
 use Rattle.store_rows.proofs.ValueLemmas.{cons_reads, decimal_reads, denom_reads, moment_reads, status_reads, truth_reads, user_reads}
 
 -- Each is `field` by field, where what is known of the record grows by the field that was read.

@@ -1,16 +1,11 @@
 -- The places of a window are read as they are packed in the first format.
-use Rattle.std.proofs.Common.{◌≡◌, ◌∙◌, ℕ, zero, suc, ◌+◌, ◌-◌, ◌*◌, ◌/◌, ◌%◌, ◌^◌, ◌<◌, ◌≤◌, ◌⊎◌, inl, inr, min, Bool, true, false, not, cond, eqb, List, [], ◌∷◌, ◌++◌, length, take, drop, Result, Ok, Err, refl, sym, ap, ap₂, subst, append_assoc, arith}
-use Rattle.std.specs.Int.{w32}
-use Rattle.std.proofs.Math.Nat.{div-div-eq-div-mul, pow-suc}
-use Rattle.std.proofs.lemmas.Bool.{cases_lt, eqb-true}
-use Rattle.std.proofs.lemmas.List.{append-nil, drop_all, drop_at, length-append, length-drop, length-take, take_all, take_at, take-append-drop}
+use Rattle.std.proofs.Common.{◌≡◌, ◌∙◌, ℕ, zero, suc, ◌+◌, ◌-◌, ◌*◌, ◌/◌, ◌%◌, ◌^◌, ◌<◌, ◌≤◌, ◌⊎◌, inl, inr, min, Bool, true, false, not, cond, eqb, List, [], ◌∷◌, ◌++◌, length, take, drop, Result, Ok, Err, refl, sym, ap, ap₂, subst, append_assoc, arith, w32, eqb-true, append-nil, drop_at, length-append, length-drop, length-take, take_all, take_at, take-append-drop}
+use Rattle.std.proofs.{Math.Nat.{div-div-eq-div-mul, pow-suc}, lemmas.{Bool.cases_lt, List.drop_all}}
 use Rattle.base_coins.specs.Steps.{◌>>=◌}
-use Rattle.store_rows.specs.declared.fault.RowFault.{RowFault}
-use Rattle.store_rows.specs.declared.fault.RowFault.TheVariants.{BadRow}
+use Rattle.store_rows.specs.declared.fault.RowFault.{RowFault, TheVariants.BadRow}
 use Rattle.store_rows.specs.Fields.{four_bytes, packed, packed_len, packed_ring_bytes, places_byte, truth_byte}
 use Rattle.store_rows.specs.Reading.{bytes_at, number_at, packed_ring_at, places_in, places_of, with_places}
-use Rattle.store_rows.specs.Spelled.{IsCountable}
-use Rattle.store_rows.proofs.ReadsLemmas.{IsBytes, Reads, bind_is, bind_ok, ok_is}
+use Rattle.store_rows.{specs.Spelled.IsCountable, proofs.ReadsLemmas.{IsBytes, Reads, bind_is, bind_ok, ok_is}}
 use Rattle.store_rows.proofs.NumberLemmas.{bytes_read, four_read}
 
 -- ---- one byte

@@ -1,22 +1,15 @@
 -- What the rows of items tell before they are read.
-use Rattle.std.proofs.Common.{◌≡◌, ◌∙◌, ℕ, ◌<◌, Bool, true, false, List, ◌++◌, length, Option, Some, None, Result, Ok, Err, refl, sym, ap, subst}
-use Rattle.std.specs.Int.{w32}
+use Rattle.std.proofs.Common.{◌≡◌, ◌∙◌, ℕ, ◌<◌, Bool, true, false, List, ◌++◌, length, Option, Some, None, Result, Ok, Err, refl, sym, ap, subst, w32}
 use Rattle.base_coins.specs.Steps.{◌>>=◌}
 use Rattle.base_io.specs.Rows.{Pair}
 use Rattle.base_roles.specs.declared.items.Item.{Item}
 use Rattle.base_roles.specs.declared.items.Item.TheVariants as item
-use Rattle.store_rows.specs.declared.fault.RowFault.{RowFault}
-use Rattle.store_rows.specs.declared.fault.RowFault.TheVariants.{BadRow}
-use Rattle.store_rows.specs.declared.format.Format.{Format}
+use Rattle.store_rows.specs.declared.{fault.RowFault.{RowFault, TheVariants.BadRow}, format.Format.Format}
 use Rattle.store_rows.specs.declared.format.Format.TheVariants.{First, Second}
 use Rattle.store_rows.specs.Fields.{four_bytes, list_bytes, missed_of, packed, packed_len, ring_bytes}
-use Rattle.store_rows.specs.Reading.{info_at, length_at, number_at}
-use Rattle.store_rows.specs.Rows.{info_bytes, key_bytes, row_in, value_in}
-use Rattle.store_rows.specs.Spelled.{HasRow, IsCountable}
-use Rattle.store_rows.specs.Told.{window_of}
-use Rattle.store_rows.proofs.ReadsLemmas.{bind_is, ok_is}
-use Rattle.store_rows.proofs.NumberLemmas.{four_read}
-use Rattle.store_rows.proofs.RecordLemmas.{info_reads}
+use Rattle.store_rows.specs.{Reading.{info_at, length_at, number_at}, Rows.{info_bytes, key_bytes, row_in, value_in}}
+use Rattle.store_rows.{specs.{Spelled.{HasRow, IsCountable}, Told.window_of}, proofs.ReadsLemmas.{bind_is, ok_is}}
+use Rattle.store_rows.proofs.{NumberLemmas.four_read, RecordLemmas.info_reads}
 
 -- a ring begins with its length
 length_first : (f : Format) (ring : List Bool) → IsCountable ring → (number_at w32 (ring_bytes f ring) >>= λ n. Ok n.0) ≡ Ok (length ring)

@@ -1,21 +1,12 @@
 -- The fields of a row are read as they are spelled.
-use Rattle.std.proofs.Common.{◌≡◌, ◌∙◌, ℕ, zero, suc, ◌^◌, ◌<◌, Bool, true, false, cond, ltb, List, [], ◌∷◌, ◌++◌, length, Option, Some, None, Result, Ok, Err, refl, sym, ap, subst, append_assoc, arith}
-use Rattle.std.specs.Int.{w32, w128}
-use Rattle.std.specs.List.{flat_map, AllByRecursion}
-use Rattle.std.proofs.lemmas.Bool.{ltb-true, lt-ltb, le-ltb}
-use Rattle.std.proofs.lemmas.List.{take_at, drop_at, length-append}
-use Rattle.std.proofs.lemmas.List.Concat.{flat_map-cons}
-use Rattle.base_types.specs.Address.{IsAddress}
-use Rattle.base_types.specs.Calendar.{end_of_time}
-use Rattle.base_types.specs.Denom.{denom_of, is_denom}
-use Rattle.base_types.specs.declared.status.BondStatus.{BondStatus}
-use Rattle.base_types.specs.declared.status.BondStatus.TheVariants.{Bonded, Unbonding, Unbonded}
-use Rattle.base_types.specs.declared.account.Module.{Module}
-use Rattle.base_types.specs.Modules.{module_of, user_or_none, user_from}
+use Rattle.std.proofs.Common.{◌≡◌, ◌∙◌, ℕ, zero, suc, ◌^◌, ◌<◌, Bool, true, false, cond, ltb, List, [], ◌∷◌, ◌++◌, length, Option, Some, None, Result, Ok, Err, refl, sym, ap, subst, append_assoc, arith, w32, flat_map, ltb-true, lt-ltb, le-ltb, take_at, drop_at, length-append}
+use Rattle.std.{specs.{Int.w128, List.AllByRecursion}, proofs.lemmas.List.Concat.flat_map-cons}
+use Rattle.base_types.specs.{Address.IsAddress, Calendar.end_of_time, Denom.{denom_of, is_denom}}
+use Rattle.base_types.specs.declared.status.BondStatus.{BondStatus, TheVariants.{Bonded, Unbonding, Unbonded}}
+use Rattle.base_types.specs.{declared.account.Module.Module, Modules.{module_of, user_or_none, user_from}}
 use Rattle.base_types.specs.Moment.{moment_from}
 use Rattle.base_coins.specs.Steps.{◌>>=◌}
-use Rattle.store_rows.specs.declared.fault.RowFault.{RowFault}
-use Rattle.store_rows.specs.declared.fault.RowFault.TheVariants.{BadRow}
+use Rattle.store_rows.specs.declared.fault.RowFault.{RowFault, TheVariants.BadRow}
 use Rattle.store_rows.specs.Fields.{denom_bytes, sixteen_bytes, truth_byte, status_byte, list_bytes, four_bytes}
 use Rattle.store_rows.specs.Reading.{byte_at, number_at, bytes_at, or_bad, decimal_at, moment_at, user_at, denom_at, truth_at, status_at, each_at, with_front, list_at}
 use Rattle.store_rows.specs.Spelled.{IsDecimal, IsMoment, IsUser, IsName, IsCountable}

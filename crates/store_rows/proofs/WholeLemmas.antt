@@ -1,23 +1,15 @@
 -- A row is read as the item that has it, and the row of each item is read as the item.
-use Rattle.std.proofs.Common.{◌≡◌, ◌∙◌, ◌⊎◌, inl, inr, ℕ, suc, Bool, true, false, cond, eqb, List, [], ◌∷◌, Option, Some, None, Result, Ok, Err, refl, sym, ap, ap₂, subst}
-use Rattle.std.specs.Prelude.{IfOk, IsErrOf}
-use Rattle.std.proofs.lemmas.Bool.{eqb-true}
+use Rattle.std.proofs.Common.{◌≡◌, ◌∙◌, ◌⊎◌, inl, inr, ℕ, suc, Bool, true, false, cond, eqb, List, [], ◌∷◌, Option, Some, None, Result, Ok, Err, refl, sym, ap, ap₂, subst, IfOk, IsErrOf, eqb-true}
 use Rattle.base_coins.specs.Steps.{◌>>=◌}
 use Rattle.base_io.specs.Rows.{Pair}
-use Rattle.base_roles.specs.declared.items.Item.{Item}
+use Rattle.base_roles.specs.{declared.items.Item.Item, Items.key_of}
 use Rattle.base_roles.specs.declared.items.Item.TheVariants as item
-use Rattle.base_roles.specs.Items.{key_of}
-use Rattle.store_rows.specs.declared.fault.RowFault.{RowFault}
-use Rattle.store_rows.specs.declared.fault.RowFault.TheVariants.{BadRow, NoMemory}
-use Rattle.store_rows.specs.declared.format.Format.{Format}
-use Rattle.store_rows.specs.declared.kind.Kind.{Kind}
-use Rattle.store_rows.specs.declared.kind.Kind.TheVariants as kind
-use Rattle.store_rows.specs.Kinds.{kind_of, prefix_of}
-use Rattle.store_rows.specs.Rows.{key_bytes, row_in, value_in}
-use Rattle.store_rows.specs.Reading.{Gives, byte_at, item_in, item_of, or_bad}
-use Rattle.store_rows.specs.Spelled.{HasRow}
+use Rattle.store_rows.specs.declared.{fault.RowFault.{RowFault, TheVariants.{BadRow, NoMemory}}, format.Format.Format}
+use Rattle.store_rows.specs.{declared.kind.Kind.Kind, Kinds.{kind_of, prefix_of}, Rows.{key_bytes, row_in, value_in}}
+use Rattle.store_rows.specs.{Reading.{Gives, byte_at, item_in, item_of, or_bad}, Spelled.HasRow}
 use Rattle.store_rows.proofs.ReadsLemmas.{IsBytes, bind_ok, ok_is}
 use Rattle.store_rows.proofs.ItemLemmas.{IsRead, head_takes, head_again, parameters_take, parameters_again, balance_takes, balance_again, supply_takes, supply_again, validator_takes, validator_again, delegation_takes, delegation_again, unbonding_takes, unbonding_again, redelegation_takes, redelegation_again, signing_takes, signing_again, purse_takes, purse_again, pool_takes, pool_again, withdraw_takes, withdraw_again, current_takes, current_again, historical_takes, historical_again, start_takes, start_again, event_takes, event_again}
+use Rattle.store_rows.specs.declared.kind.Kind.TheVariants as kind
 
 -- ---- the byte of a kind
 

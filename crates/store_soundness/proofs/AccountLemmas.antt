@@ -1,28 +1,15 @@
 -- What the not-bonded and the distribution account owe, by totals up to 10^38.
-use Rattle.std.proofs.Common.{◌≡◌, ◌∙◌, ℕ, ◌+◌, ◌*◌, ◌^◌, ◌≤◌, ◌<◌, Bool, true, false, cond, not, List, [], ◌∷◌, map, refl, sym, ap, subst, inl, inr, arith, zero-add, add-zero, add_assoc}
-use Rattle.std.specs.Prelude.{◌⊎◌, ◌==◌, ◌&&◌, ◌||◌, min, nat_le}
-use Rattle.std.proofs.Math.Nat.{min-le_left}
-use Rattle.std.proofs.lemmas.Bool.{cases_lt}
-use Rattle.std.proofs.lemmas.List.Sums.{sum_by-cons}
-use Rattle.std.specs.Map.{values_of}
-use Rattle.std.proofs.lemmas.Bool.Decides.{nat_tests}
-use Rattle.std.specs.BTreeMap.{is_at}
-use Rattle.std.specs.List.{list_all}
-use Rattle.base_types.specs.declared.account.Account.{Account}
+use Rattle.std.proofs.Common.{◌≡◌, ◌∙◌, ℕ, ◌+◌, ◌*◌, ◌^◌, ◌≤◌, ◌<◌, Bool, true, false, cond, not, List, [], ◌∷◌, map, refl, sym, ap, subst, inl, inr, arith, zero-add, add-zero, add_assoc, ◌⊎◌, ◌==◌, ◌&&◌, ◌||◌, min, nat_le}
+use Rattle.std.proofs.{Math.Nat.min-le_left, lemmas.{Bool.{cases_lt, Decides.nat_tests}, List.Sums.sum_by-cons}}
+use Rattle.std.specs.{Map.values_of, BTreeMap.is_at, List.list_all}
+use Rattle.base_types.specs.{declared.account.Account.Account, Orders.{account_cmp, denom_cmp}}
 use Rattle.base_types.specs.declared.account.Account.TheVariants as account
 use Rattle.base_types.specs.declared.account.Module.TheVariants as holder
-use Rattle.base_types.specs.Orders.{account_cmp, denom_cmp}
 use Rattle.base_coins.specs.Coins.{Money}
-use Rattle.base_roles.specs.declared.entities.Purse.{Purse}
-use Rattle.base_roles.specs.declared.entities.UnbondingEntry.{UnbondingEntry}
-use Rattle.base_roles.specs.declared.entities.Validator.{Validator}
-use Rattle.base_roles.specs.Entries.{number_at}
-use Rattle.base_roles.specs.Holdings.{Balances}
-use Rattle.base_roles.specs.Orders.{place_cmp}
-use Rattle.base_roles.specs.Staked.{is_bonded, tokens_where}
+use Rattle.base_roles.specs.declared.entities.{Purse.Purse, UnbondingEntry.UnbondingEntry, Validator.Validator}
+use Rattle.base_roles.specs.{Entries.number_at, Holdings.Balances, Orders.place_cmp, Staked.{is_bonded, tokens_where}}
 use Rattle.base_roles.proofs.HoldingLemmas.{denom_total}
-use Rattle.rule_modules.specs.Owed.{balances_of as entries_together, entry_balances}
-use Rattle.rule_modules.specs.Unbondings.{UnbondingLists}
+use Rattle.rule_modules.specs.{Owed.{balances_of as entries_together, entry_balances}, Unbondings.UnbondingLists}
 use Rattle.store_soundness.specs.Accounts.{others_of, with_unbondings, not_bonded_in, holds_just, units_in, coin_totals, outstanding_in, outstanding_totals, owed_in, is_held, are_held, is_elsewhere_or_held, holds_owed}
 use Rattle.store_soundness.specs.Tally.{summed, tallied}
 use Rattle.store_soundness.proofs.BackingLemmas.{all_alike, just_alike, other_sum, entry_sum}

@@ -1,27 +1,15 @@
 -- Totals up to 10^38 serve as well as whole ones in the tests of supplies, shares, accounts and counts.
-use Rattle.std.proofs.Common.{◌≡◌, ◌∙◌, ℕ, ◌+◌, ◌-◌, ◌*◌, ◌^◌, ◌≤◌, ◌<◌, Bool, true, false, cond, not, List, [], ◌∷◌, map, refl, sym, ap, subst, inl, inr, arith, zero-add}
-use Rattle.std.specs.Prelude.{◌⊎◌, ◌==◌, ◌&&◌, min, nat_le, nat_lt, if◌then◌else◌}
-use Rattle.std.proofs.lemmas.Bool.{cases_lt}
-use Rattle.std.proofs.lemmas.List.Sums.{sum_by-cons}
-use Rattle.std.proofs.lemmas.Bool.Decides.{nat_tests}
-use Rattle.std.specs.BTreeMap.{is_at}
+use Rattle.std.proofs.Common.{◌≡◌, ◌∙◌, ℕ, ◌+◌, ◌-◌, ◌*◌, ◌^◌, ◌≤◌, ◌<◌, Bool, true, false, cond, not, List, [], ◌∷◌, map, refl, sym, ap, subst, inl, inr, arith, zero-add, ◌⊎◌, ◌==◌, ◌&&◌, min, nat_le, nat_lt, if◌then◌else◌}
+use Rattle.std.{proofs.lemmas.{Bool.{cases_lt, Decides.nat_tests}, List.Sums.sum_by-cons}, specs.BTreeMap.is_at}
 use Rattle.std.specs.List.{list_all}
-use Rattle.base_types.specs.declared.account.Account.{Account}
-use Rattle.base_types.specs.declared.status.BondStatus.{BondStatus}
+use Rattle.base_types.specs.declared.{account.Account.Account, status.BondStatus.BondStatus}
 use Rattle.base_types.specs.Orders.{addr_cmp, denom_cmp}
 use Rattle.base_coins.specs.Coins.{Money}
-use Rattle.base_roles.specs.declared.entities.Purse.{Purse}
-use Rattle.base_roles.specs.declared.entities.UnbondingEntry.{UnbondingEntry}
-use Rattle.base_roles.specs.declared.entities.Validator.{Validator}
-use Rattle.base_roles.specs.Entries.{number_at, sum_where}
-use Rattle.base_roles.specs.Holdings.{Balances}
-use Rattle.base_roles.specs.Orders.{place_cmp}
-use Rattle.base_roles.specs.Staked.{is_bonded, tokens_where}
-use Rattle.base_roles.proofs.HoldingLemmas.{denom_total}
-use Rattle.rule_modules.specs.Owed.{balances_of as entries_together, entry_balances}
-use Rattle.rule_modules.specs.Unbondings.{UnbondingLists}
+use Rattle.base_roles.specs.declared.entities.{Purse.Purse, UnbondingEntry.UnbondingEntry, Validator.Validator}
+use Rattle.base_roles.specs.{Entries.{number_at, sum_where}, Holdings.Balances, Orders.place_cmp}
+use Rattle.base_roles.{specs.{Staked.{is_bonded, tokens_where}, Ranges.is_within}, proofs.HoldingLemmas.denom_total}
+use Rattle.rule_modules.specs.{Owed.{balances_of as entries_together, entry_balances}, Unbondings.UnbondingLists}
 use Rattle.rule_modules.proofs.OrderLemmas.{addr_total}
-use Rattle.base_roles.specs.Ranges.{is_within}
 use Rattle.store_soundness.specs.Accounts.{bonded_of, others_of, with_unbondings, not_bonded_in, holds_just, is_elsewhere_or, units_in, coin_totals, outstanding_in, outstanding_totals, owed_in, is_held, are_held, is_elsewhere_or_held, holds_owed}
 use Rattle.store_soundness.specs.Ranges.{balances_of, balance_totals, is_supply_sound, are_supplies_sound}
 use Rattle.store_soundness.specs.Shares.{shares_of, share_totals, is_total, have_shares}

@@ -1,19 +1,12 @@
 -- The numbers of references to periods, as they are added one after another.
-use Rattle.std.proofs.Common.{◌≡◌, ◌∙◌, ℕ, ◌+◌, ◌-◌, ◌^◌, ◌≤◌, ◌<◌, Bool, true, false, cond, List, [], ◌∷◌, refl, sym, ap, subst, inl, inr, arith, zero-add, add_assoc}
-use Rattle.std.specs.Prelude.{◌⊎◌, ◌==◌, ◌&&◌, min, nat_lt}
-use Rattle.std.proofs.lemmas.Bool.{cases_lt}
-use Rattle.std.proofs.lemmas.Bool.Decides.{nat_tests}
-use Rattle.std.specs.BTreeMap.{is_at}
-use Rattle.base_roles.specs.declared.entities.Historical.{Historical}
-use Rattle.base_roles.specs.declared.entities.StartingInfo.{StartingInfo}
-use Rattle.base_roles.specs.Entries.{number_at}
+use Rattle.std.proofs.Common.{◌≡◌, ◌∙◌, ℕ, ◌+◌, ◌-◌, ◌^◌, ◌≤◌, ◌<◌, Bool, true, false, cond, List, [], ◌∷◌, refl, sym, ap, subst, inl, inr, arith, zero-add, add_assoc, ◌⊎◌, ◌==◌, ◌&&◌, min, nat_lt}
+use Rattle.std.{proofs.lemmas.Bool.{cases_lt, Decides.nat_tests}, specs.BTreeMap.is_at}
+use Rattle.base_roles.specs.{declared.entities.{Historical.Historical, StartingInfo.StartingInfo}, Entries.number_at}
 use Rattle.rule_modules.specs.Amounts.{count_where}
 use Rattle.store_soundness.specs.Histories.{refer_currents, refer_starts, refer_events, references_at, current_totals, start_totals, event_totals, reference_totals, is_counted, have_counts}
-use Rattle.store_records.specs.Plain.{SharedSeen, period_cmp}
-use Rattle.store_soundness.specs.Tally.{raised, tallied}
-use Rattle.store_records.proofs.OrderLemmas.{period_total}
-use Rattle.store_soundness.proofs.BackingLemmas.{all_alike}
+use Rattle.store_soundness.{specs.Tally.{raised, tallied}, proofs.BackingLemmas.all_alike}
 use Rattle.store_soundness.proofs.TallyLemmas.{min_again, sum_at, tallied_at, low_tallied, low_none, equal_below}
+use Rattle.store_records.{specs.Plain.{SharedSeen, period_cmp}, proofs.OrderLemmas.period_total}
 
 -- one more period that runs
 pub current_step : (rest rest2 : List (List ℕ × ℕ)) (all : List ((List ℕ × ℕ) × ℕ)) (operator : List ℕ) (current n : ℕ) (counts counts2 : List ((List ℕ × ℕ) × ℕ))

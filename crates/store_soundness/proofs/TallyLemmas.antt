@@ -1,13 +1,7 @@
 -- Sums and numbers by key are those of a function, up to 10^38.
-use Rattle.std.proofs.Common.{◌≡◌, ◌∙◌, ℕ, ◌+◌, ◌^◌, ◌≤◌, ◌<◌, Bool, true, false, cond, List, [], ◌∷◌, Option, Some, None, refl, sym, ap, subst, inl, inr, arith, zero-add, add-zero, add_assoc}
-use Rattle.std.specs.Prelude.{◌⊎◌, ◌==◌, ◌&&◌, min, nat_le, nat_lt, unwrap_or}
-use Rattle.std.proofs.Math.Nat.{min-eq_left, min-le_left, min_comm}
-use Rattle.std.proofs.lemmas.Bool.{cases_lt}
-use Rattle.std.proofs.lemmas.Bool.Decides.{nat_tests}
-use Rattle.std.specs.BTreeMap.{is_at}
-use Rattle.std.specs.Cmp.{IsTotalOrder, eq_by_cmp_equiv}
-use Rattle.std.specs.Map.{lookup}
-use Rattle.std.specs.declared.cmp.Ordering.{Ordering}
+use Rattle.std.proofs.Common.{◌≡◌, ◌∙◌, ℕ, ◌+◌, ◌^◌, ◌≤◌, ◌<◌, Bool, true, false, cond, List, [], ◌∷◌, Option, Some, None, refl, sym, ap, subst, inl, inr, arith, zero-add, add-zero, add_assoc, ◌⊎◌, ◌==◌, ◌&&◌, min, nat_le, nat_lt, unwrap_or, Ordering}
+use Rattle.std.proofs.{Math.Nat.{min-eq_left, min-le_left, min_comm}, lemmas.Bool.{cases_lt, Decides.nat_tests}}
+use Rattle.std.specs.{BTreeMap.is_at, Cmp.{IsTotalOrder, eq_by_cmp_equiv}, Map.lookup}
 use Rattle.base_types.proofs.MapLemmas.{at-put, equal}
 use Rattle.base_roles.specs.Entries.{at, number_at}
 use Rattle.store_soundness.specs.Tally.{up_to_most, summed, raised, tallied, AreNumbers}

@@ -3,9 +3,7 @@ use Rattle.std.proofs.Common.{◌≡◌, ◌∙◌, ◌⊎◌, inl, inr, false, 
 use Rattle.sqlite_wal.specs.Recovery.{Image}
 use Rattle.sqlite_trees.specs.Tree.{Trees}
 use Rattle.sqlite_catalog.specs.Listing.{IsSound}
-use Rattle.sqlite.specs.Effect.{Database, IsDatabase}
-use Rattle.sqlite.specs.Files.{HoldsDatabase}
-use Rattle.sqlite.specs.Start.{FindsIn}
+use Rattle.sqlite.specs.{Effect.{Database, IsDatabase}, Files.HoldsDatabase, Start.FindsIn}
 use Rattle.sqlite.specs.State.{State, HasCleanDisk, Opens, IsLive}
 use Rattle.base_io.specs.Rows.{Pair}
 use Rattle.store_sqlite.specs.Kept.{AreRowsOf, kept_schema, map_of, no_schema}

@@ -1,14 +1,9 @@
 -- The table as it is made.
 use Rattle.std.proofs.Common.{◌≡◌, ◌∙◌, ◌⊎◌, inl, inr, ℕ, [], Result, Ok, Err, OnOk, None, false, sym, ap, subst}
-use Rattle.sqlite.specs.declared.error.Error.{Error}
-use Rattle.sqlite.specs.Change.{created, next_tree}
-use Rattle.sqlite.specs.Command.TheVariants.{CreateTable}
-use Rattle.sqlite.specs.Does.{Tally, lacks_sequence}
-use Rattle.sqlite.specs.Effect.{Database}
-use Rattle.sqlite.specs.State.{State, Executes, Writes}
+use Rattle.sqlite.specs.{declared.error.Error.Error, Change.{created, next_tree}, Command.TheVariants.CreateTable}
+use Rattle.sqlite.specs.{Does.{Tally, lacks_sequence}, Effect.Database, State.{State, Executes, Writes}}
 use Rattle.sqlite.proofs.Callers.{runs_as}
-use Rattle.store_sqlite.specs.Kept.{kept, no_schema}
-use Rattle.store_sqlite.proofs.Texts.{create_text, create_is, create_plain}
+use Rattle.store_sqlite.{specs.Kept.{kept, no_schema}, proofs.Texts.{create_text, create_is, create_plain}}
 
 -- a part that gave a value did not stop on the way
 went : {B E R : Type 0} {b : B} {Stops : E → Type 0} → ((stop : E) × Stops stop × (Ok b ≡ Err stop)) ⊎ R → R

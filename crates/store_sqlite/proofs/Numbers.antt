@@ -2,15 +2,12 @@
 use Rattle.std.proofs.Common.{◌≡◌, ◌∙◌, inl, List, [], ◌∷◌, filter, IsTrue, refl, ap, subst, arith}
 use Rattle.std.specs.List.{AllByRecursion, AllZip}
 use Rattle.sqlite_value.specs.Order.{Row, column}
-use Rattle.sqlite_trees.specs.declared.store.Shape.{Shape}
-use Rattle.sqlite_trees.specs.declared.store.Shape.TheVariants as shape
-use Rattle.sqlite_trees.specs.Tree.{rowid, IsTable}
+use Rattle.sqlite_trees.specs.{declared.store.Shape.Shape, Tree.{rowid, IsTable}}
 use Rattle.sqlite_trees.specs.View.{View, is_int, IsOrdered, IsShaped}
 use Rattle.sqlite_trees.specs.Objects.{IsListed, catalog_tree, number_in, shape_code}
-use Rattle.sqlite_rules.specs.Lists.{Has}
-use Rattle.sqlite_rules.proofs.ListLemmas.{has_filtered}
-use Rattle.sqlite_catalog.specs.Listing.{IsSound, IsTableRow, is_table_row}
-use Rattle.sqlite_catalog.proofs.LayoutLemmas.{row_found}
+use Rattle.sqlite_trees.specs.declared.store.Shape.TheVariants as shape
+use Rattle.sqlite_rules.{specs.Lists.Has, proofs.ListLemmas.has_filtered}
+use Rattle.sqlite_catalog.{specs.Listing.{IsSound, IsTableRow, is_table_row}, proofs.LayoutLemmas.row_found}
 use Rattle.store_sqlite.specs.Kept.{kept, kept_schema}
 
 one_zip : {X Y : Type 0} (P : X → Y → Type 0) (xs : List X) (y : Y) → AllZip P xs (y ∷ []) → (x : X) × Has xs x × P x y

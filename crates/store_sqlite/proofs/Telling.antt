@@ -1,14 +1,9 @@
 -- What is told of the rows, and what a stop leaves.
-use Rattle.std.proofs.Common.{◌≡◌, ◌∙◌, Bool, true, false, ◌&&◌, cond, List, Some, None, IfSome, IsTrue, Result, Ok, Err, OnOk, OnErr, refl, sym, ap, subst, arith}
-use Rattle.std.specs.Prelude.{IsSome}
-use Rattle.sqlite_trees.specs.Tree.{Trees}
-use Rattle.sqlite_trees.specs.View.{doubt}
-use Rattle.sqlite_trees.proofs.Doubt.{no_doubt}
-use Rattle.sqlite.specs.Effect.{Database}
-use Rattle.sqlite.specs.State.{State, HasCleanDisk, Opens, IsLive}
+use Rattle.std.proofs.Common.{◌≡◌, ◌∙◌, Bool, true, false, ◌&&◌, cond, List, Some, None, IfSome, IsTrue, Result, Ok, Err, OnOk, OnErr, refl, sym, ap, subst, arith, IsSome}
+use Rattle.sqlite_trees.{specs.{Tree.Trees, View.doubt}, proofs.Doubt.no_doubt}
+use Rattle.sqlite.specs.{Effect.Database, State.{State, HasCleanDisk, Opens, IsLive}}
 use Rattle.base_io.specs.Rows.{Pair, Makes}
-use Rattle.store_sqlite.specs.Kept.{IsHeld, IsKept, kept_schema, map_of, told, Leaves}
-use Rattle.store_sqlite.proofs.Numbers.{IsNumbered}
+use Rattle.store_sqlite.{specs.Kept.{IsHeld, IsKept, kept_schema, map_of, told, Leaves}, proofs.Numbers.IsNumbered}
 
 clean_is : (b : Bool) → doubt b ≡ 0 → b ≡ true
 unfolding doubt

@@ -1,8 +1,7 @@
 -- Changes that put a head and one row are ordinary.
 use Rattle.std.proofs.Common.{◌≡◌, ◌⊎◌, inl, inr, ℕ, ◌≤◌, List, [], ◌∷◌, length, refl, subst, arith}
-use Rattle.base_io.specs.declared.keeper.Row.{Row}
+use Rattle.base_io.specs.{declared.keeper.Row.Row, Changes.{IsOrdinary, IsReserved}}
 use Rattle.base_io.specs.declared.keeper.Change.TheVariants as change
-use Rattle.base_io.specs.Changes.{IsOrdinary, IsReserved}
 
 one_is_free : (key : List ℕ) → key ≡ 1 ∷ [] → IsReserved key → ⊥
 one_is_free key is held = elim (subst (λ (k : List ℕ). IsReserved k) is held) [ inl e ↦ cc | inr e ↦ cc ]

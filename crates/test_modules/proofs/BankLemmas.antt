@@ -1,6 +1,5 @@
 -- What the book of the tests has at first.
-use Rattle.std.proofs.Common.{◌≡◌, [], ap}
-use Rattle.std.specs.Prelude.{Result, Ok, Err, IfOk}
+use Rattle.std.proofs.Common.{◌≡◌, [], ap, Result, Ok, Err, IfOk}
 use Rattle.base_roles.specs.Holdings.{Holdings}
 use Rattle.mod_bank.specs.Booked.{Booked, holding, new_book}
 

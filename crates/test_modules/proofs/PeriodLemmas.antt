@@ -1,9 +1,6 @@
 -- What the test of slash events says of those that a validator has.
-use Rattle.std.proofs.Common.{◌≡◌, ◌∙◌, ℕ, Bool, true, false, List, [], ◌∷◌, get_or, refl, ap, subst, arith}
-use Rattle.std.specs.Prelude.{◌≢◌, ◌≤◌, ◌==◌, ◌&&◌, not, All, nat_le, cond}
-use Rattle.std.specs.List.{list_all}
-use Rattle.std.proofs.lemmas.Bool.{and_parts}
-use Rattle.std.proofs.lemmas.List.Sums.{AllPass-from_list_all}
+use Rattle.std.proofs.Common.{◌≡◌, ◌∙◌, ℕ, Bool, true, false, List, [], ◌∷◌, get_or, refl, ap, subst, arith, ◌≢◌, ◌≤◌, ◌==◌, ◌&&◌, not, All, nat_le, cond}
+use Rattle.std.{specs.List.list_all, proofs.lemmas.{Bool.and_parts, List.Sums.AllPass-from_list_all}}
 use Rattle.std.proofs.lemmas.Bool.Decides.{nat_tests}
 use Rattle.base_roles.specs.declared.entities.SlashEvent.{SlashEvent}
 use Rattle.mod_periods.specs.Earning.{events_since}

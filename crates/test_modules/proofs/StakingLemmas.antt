@@ -1,15 +1,10 @@
 -- What the calls of tests leave is fit for the next ones.
-use Rattle.std.proofs.Common.{◌≡◌, ◌∙◌, ℕ, ◌-◌, ◌^◌, ◌<◌, List, [], ◌∷◌, Some, None, sym, ap, subst, arith, inl, inr}
-use Rattle.std.specs.Prelude.{Contains, ◌⊎◌, ◌≢◌}
+use Rattle.std.proofs.Common.{◌≡◌, ◌∙◌, ℕ, ◌-◌, ◌^◌, ◌<◌, List, [], ◌∷◌, Some, None, sym, ap, subst, arith, inl, inr, Contains, ◌⊎◌, ◌≢◌}
 use Rattle.std.specs.List.Sorted.{IsStrictlySortedBy}
-use Rattle.base_roles.specs.declared.entities.Validator.{Validator}
-use Rattle.base_roles.specs.declared.items.Item.{Item}
+use Rattle.base_roles.specs.declared.{entities.Validator.Validator, items.Item.Item}
+use Rattle.base_roles.specs.{Items.{HasRoom, IsAdded, IsEmptyPool, key_of}, Staked.Staked, World.View}
+use Rattle.base_roles.specs.{Ground.{AreInRange, end_of_blocks}, Holdings.IsBacked}
 use Rattle.base_roles.specs.declared.items.Item.TheVariants as item
-use Rattle.base_roles.specs.Items.{HasRoom, IsAdded, IsEmptyPool, key_of}
-use Rattle.base_roles.specs.Staked.{Staked}
-use Rattle.base_roles.specs.World.{View}
-use Rattle.base_roles.specs.Ground.{AreInRange, end_of_blocks}
-use Rattle.base_roles.specs.Holdings.{IsBacked}
 use Rattle.mod_staking.specs.Registered.{no_stake}
 use Rattle.test_modules.specs.StakingTrials.{IsFit}
 use Rattle.rule_modules.proofs.SoundLemmas.{from_points}

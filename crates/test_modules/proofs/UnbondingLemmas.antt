@@ -1,25 +1,13 @@
 -- What the calls of tests need where nothing stands yet.
-use Rattle.std.proofs.Common.{◌≡◌, ℕ, ◌^◌, ◌<◌, ◌≤◌, List, [], ◌∷◌, ap, subst, sym, arith}
-use Rattle.std.specs.Prelude.{All, Contains, length, Result, Ok, Err, OnOk}
-use Rattle.std.proofs.lemmas.List.Elements.{All-nil}
-use Rattle.std.specs.List.Sorted.{IsStrictlySortedBy}
-use Rattle.base_roles.specs.declared.entities.UnbondingEntry.{UnbondingEntry}
-use Rattle.base_roles.specs.declared.items.Item.{Item}
-use Rattle.base_roles.specs.Items.{HasRoom}
-use Rattle.base_roles.specs.Ground.{AreInRange, IsInOrder, end_of_blocks}
-use Rattle.base_roles.specs.Holdings.{IsBacked}
-use Rattle.base_roles.specs.NoHooks.{nothing_told}
-use Rattle.base_roles.specs.Staked.{Staked, bonded_tokens, other_tokens}
-use Rattle.base_roles.specs.StakeChanges.{HoldsStake}
-use Rattle.base_roles.specs.World.{View}
-use Rattle.rule_modules.specs.Sound.{UnbondingIsSound}
-use Rattle.rule_modules.specs.Unbondings.{UnbondingLists}
+use Rattle.std.proofs.Common.{◌≡◌, ℕ, ◌^◌, ◌<◌, ◌≤◌, List, [], ◌∷◌, ap, subst, sym, arith, All, Contains, length, Result, Ok, Err, OnOk}
+use Rattle.std.{proofs.lemmas.List.Elements.All-nil, specs.List.Sorted.IsStrictlySortedBy}
+use Rattle.base_roles.specs.{declared.{entities.UnbondingEntry.UnbondingEntry, items.Item.Item}, Items.HasRoom}
+use Rattle.base_roles.specs.{Ground.{AreInRange, IsInOrder, end_of_blocks}, Holdings.IsBacked, NoHooks.nothing_told}
+use Rattle.base_roles.specs.{Staked.{Staked, bonded_tokens, other_tokens}, StakeChanges.HoldsStake, World.View}
+use Rattle.rule_modules.specs.{Sound.UnbondingIsSound, Unbondings.UnbondingLists}
 use Rattle.rule_modules.proofs.SoundLemmas.{none_sound, from_points}
-use Rattle.mod_staking.specs.Registered.{no_stake}
-use Rattle.mod_staking.specs.Calls.{IsSoundStake}
-use Rattle.mod_unbonding.specs.Items.{items_of}
-use Rattle.mod_unbonding.specs.Calls.{AreSoundLists, IsWhole, AreWhole}
-use Rattle.mod_unbonding.specs.Scenes.{IsUnbondingScene}
+use Rattle.mod_staking.specs.{Registered.no_stake, Calls.IsSoundStake}
+use Rattle.mod_unbonding.specs.{Items.items_of, Calls.{AreSoundLists, IsWhole, AreWhole}, Scenes.IsUnbondingScene}
 use Rattle.test_modules.specs.UnbondingTrials.{IsFit, IsKept}
 
 -- no validator and no delegation

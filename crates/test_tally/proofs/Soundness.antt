@@ -1,12 +1,7 @@
 -- A tally can be taken of the validators and delegations of the tests.
-use Rattle.std.proofs.Common.{◌≡◌, ◌^◌, ◌≤◌, List, ℕ, refl, lit≤}
-use Rattle.std.specs.Prelude.{All}
-use Rattle.std.specs.List.{AllByRecursion, IsDistinct}
-use Rattle.std.specs.Map.{keys_of}
-use Rattle.std.proofs.lemmas.List.Elements.{All-from_recursion}
-use Rattle.base_roles.specs.declared.entities.Validator.{Validator}
-use Rattle.base_roles.specs.Orders.{same_addr}
-use Rattle.base_roles.specs.Staked.{bonded_tokens}
+use Rattle.std.proofs.Common.{◌≡◌, ◌^◌, ◌≤◌, List, ℕ, refl, lit≤, All}
+use Rattle.std.{specs.{List.{AllByRecursion, IsDistinct}, Map.keys_of}, proofs.lemmas.List.Elements.All-from_recursion}
+use Rattle.base_roles.specs.{declared.entities.Validator.Validator, Orders.same_addr, Staked.bonded_tokens}
 use Rattle.rule_modules.specs.Sound.{delegated_shares}
 use Rattle.mod_tally.specs.Taken.{CanBeTallied, staked_in}
 use Rattle.test_tally.specs.Stakes.{staked}

@@ -1,15 +1,12 @@
 -- How items belong to the two kinds of records of the tests.
-use Rattle.std.proofs.Common.{◌≡◌, ℕ, true, false, refl, arith, inl, inr}
-use Rattle.std.specs.Prelude.{is_some, ◌⊎◌}
-use Rattle.std.proofs.lemmas.Bool.Decides.{nat_tests}
-use Rattle.std.proofs.lemmas.Map.Lookups.{exact_bytes}
+use Rattle.std.proofs.Common.{◌≡◌, ℕ, true, false, refl, arith, inl, inr, is_some, ◌⊎◌}
+use Rattle.std.proofs.lemmas.{Bool.Decides.nat_tests, Map.Lookups.exact_bytes}
 use Rattle.base_types.specs.Orders.{addr_cmp, denom_cmp}
 use Rattle.base_roles.specs.declared.items.Item.{Item}
 use Rattle.base_roles.specs.declared.items.Item.TheVariants as item
-use Rattle.base_records.specs.Kinds.{AreApart}
-use Rattle.base_records.specs.Items.{AnyValue, IsRowed}
-use Rattle.test_values.specs.RowKinds.{period_item, period_gone, period_entry, supply_item, supply_gone, supply_entry, same_number}
+use Rattle.base_records.specs.{Kinds.AreApart, Items.{AnyValue, IsRowed}}
 use Rattle.base_records.proofs.RowedLemmas.{IsOfKind, IsOfOther, rowed}
+use Rattle.test_values.specs.RowKinds.{period_item, period_gone, period_entry, supply_item, supply_gone, supply_entry, same_number}
 
 is_number : (v w : ℕ) → same_number v w ≡ true → v ≡ w
 is_number v w h = grind (arith, nat_tests)

@@ -1,7 +1,5 @@
-use Rattle.std.proofs.Common.{refl, sym, arith, ◌∙◌, ◌≡◌, ◌*◌, ◌+◌, ◌-◌, take, drop, length}
-use Rattle.std.proofs.lemmas.List.{take_all, length-take-le, length-drop}
-use Rattle.base_bech32.specs.Digits.{digits, number_of}
-use Rattle.base_bech32.proofs.DigitLemmas.{digits_within, length-part_put, part_put}
+use Rattle.std.proofs.Common.{refl, sym, arith, ◌∙◌, ◌≡◌, ◌*◌, ◌+◌, ◌-◌, take, drop, length, take_all, length-take-le, length-drop}
+use Rattle.base_bech32.{specs.Digits.{digits, number_of}, proofs.DigitLemmas.{digits_within, length-part_put, part_put}}
 use Rattle.base_bech32.proofs.digits.bytes_of.Goals as goal
 
 pub number_of-part-requires-clause-digits : goal.number_of-part-requires-clause-digits

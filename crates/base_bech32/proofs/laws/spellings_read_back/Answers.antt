@@ -1,6 +1,5 @@
 use Rattle.std.proofs.Common.{◌∙◌, ap}
-use Rattle.base_bech32.specs.Reading.{unspelled}
-use Rattle.base_bech32.proofs.SpellingLemmas.{reading_is_spelled, spelling_is_read}
+use Rattle.base_bech32.{specs.Reading.unspelled, proofs.SpellingLemmas.{reading_is_spelled, spelling_is_read}}
 use Rattle.base_bech32.proofs.laws.spellings_read_back.Goals as goal
 
 pub returns : goal.returns

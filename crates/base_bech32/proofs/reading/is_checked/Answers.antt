@@ -1,7 +1,5 @@
-use Rattle.std.proofs.Common.{◌∙◌, ◌≡◌, ◌-◌, sym, ap, arith, bytes_eq, drop, length, take}
-use Rattle.std.proofs.lemmas.List.{length-drop, length-take-le, take_all}
-use Rattle.base_bech32.specs.Digits.{digits, number_of}
-use Rattle.base_bech32.proofs.DigitLemmas.{digits_within}
+use Rattle.std.proofs.Common.{◌∙◌, ◌≡◌, ◌-◌, sym, ap, arith, bytes_eq, drop, length, take, length-drop, length-take-le, take_all}
+use Rattle.base_bech32.{specs.Digits.{digits, number_of}, proofs.DigitLemmas.digits_within}
 use Rattle.base_bech32.proofs.SpellingLemmas.{check_agrees, values_dropped, values_taken}
 use Rattle.base_bech32.proofs.reading.is_checked.Goals as goal
 

@@ -1,6 +1,5 @@
 use Rattle.std.proofs.Common.{◌∙◌}
-use Rattle.base_bech32.specs.Reading.{unspelled}
-use Rattle.base_bech32.proofs.SpellingLemmas.{spelled_if_read}
+use Rattle.base_bech32.{specs.Reading.unspelled, proofs.SpellingLemmas.spelled_if_read}
 use Rattle.base_bech32.proofs.reading.unspell.Goals as goal
 
 pub returns-clause-spelling : goal.returns-clause-spelling

@@ -1,6 +1,5 @@
 use Rattle.std.proofs.Common.{◌∙◌, ◌<◌, ap, sym, arith, encode_utf8, slice_index, take, ◌++◌}
-use Rattle.std.proofs.lemmas.List.{take_more}
-use Rattle.std.proofs.lemmas.Slice.{pushed}
+use Rattle.std.proofs.lemmas.{List.take_more, Slice.pushed}
 use Rattle.base_bech32.proofs.SpellingLemmas.{character_is_ascii, prefix_is_short}
 use Rattle.base_bech32.proofs.spelling.spell.Goals as goal
 

@@ -1,7 +1,5 @@
 use Rattle.std.proofs.Common.{◌∙◌, ap, sym, arith, subst, length}
-use Rattle.base_bech32.specs.Alphabet.{IsValues}
-use Rattle.base_bech32.specs.Digits.{digits}
-use Rattle.base_bech32.specs.Spelling.{check_number}
+use Rattle.base_bech32.specs.{Alphabet.IsValues, Digits.digits, Spelling.check_number}
 use Rattle.base_bech32.proofs.SpellingLemmas.{all_written, groups_below, prefix_is_short, values_of-below}
 use Rattle.base_bech32.proofs.spelling.spell_into.Goals as goal
 

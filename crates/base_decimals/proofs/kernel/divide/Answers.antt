@@ -1,6 +1,5 @@
 use Rattle.std.specs.Int.Count.{count_leading_zeros}
-use Rattle.std.proofs.lemmas.Nat.{pow_pos}
-use Rattle.std.proofs.Common.{ℕ, ◌+◌, ◌-◌, ◌*◌, ◌/◌, ◌%◌, ◌^◌, arith}
+use Rattle.std.proofs.Common.{pow_pos, ℕ, ◌+◌, ◌-◌, ◌*◌, ◌/◌, ◌%◌, ◌^◌, arith}
 use Rattle.base_decimals.proofs.Division.{shifted, two_digits, unscaled}
 use Rattle.base_decimals.proofs.kernel.divide.Goals as goal
 

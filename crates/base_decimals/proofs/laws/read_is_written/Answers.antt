@@ -1,7 +1,6 @@
 use Rattle.std.specs.Str.Parse.{digits_value}
 use Rattle.std.proofs.Common.{ℕ, ◌+◌, ◌*◌, ◌^◌, List, sym, ap, ◌∙◌}
-use Rattle.base_decimals.specs.Texts.{dec_of}
-use Rattle.base_decimals.proofs.Inverse.{dec_of_parts, read_written, read_small}
+use Rattle.base_decimals.{specs.Texts.dec_of, proofs.Inverse.{dec_of_parts, read_written, read_small}}
 use Rattle.base_decimals.proofs.laws.read_is_written.Goals as goal
 
 pub returns : goal.returns

@@ -1,7 +1,5 @@
-use Rattle.std.specs.Char.{digit_value}
-use Rattle.std.specs.Str.Parse.{digits_value}
-use Rattle.std.proofs.lemmas.Int.Digits.{digits_value_more, digits_value-lt}
-use Rattle.std.proofs.lemmas.Str.Parse.{digits_value-take-le}
+use Rattle.std.specs.{Char.digit_value, Str.Parse.digits_value}
+use Rattle.std.proofs.lemmas.{Int.Digits.{digits_value_more, digits_value-lt}, Str.Parse.digits_value-take-le}
 use Rattle.std.proofs.Common.{◌≡◌, ℕ, ◌+◌, ◌*◌, get_or, take, arith}
 use Rattle.base_decimals.proofs.Digits.{digit_range, digit_at, next_fits}
 use Rattle.base_decimals.proofs.text.number_from_digits.Goals as goal

@@ -1,5 +1,4 @@
-use Rattle.std.proofs.lemmas.List.{length-set}
-use Rattle.std.proofs.Common.{length, arith}
+use Rattle.std.proofs.Common.{length-set, length, arith}
 use Rattle.base_decimals.proofs.Written.{step_rest, step_written}
 use Rattle.base_decimals.proofs.text.write_digits.Goals as goal
 

@@ -1,8 +1,6 @@
-use Rattle.std.proofs.lemmas.List.{length-set}
+use Rattle.std.proofs.Common.{length-set, ℕ, ◌+◌, ◌-◌, ◌/◌, ◌%◌, ◌++◌, length, drop, length-take-le, ap, ◌∙◌, arith}
 use Rattle.std.proofs.Math.ListN.{set}
-use Rattle.std.proofs.Common.{ℕ, ◌+◌, ◌-◌, ◌/◌, ◌%◌, ◌++◌, length, drop, length-take-le, ap, ◌∙◌, arith}
-use Rattle.base_decimals.specs.Texts.{last_digits}
-use Rattle.base_decimals.proofs.Written.{whole_written}
+use Rattle.base_decimals.{specs.Texts.last_digits, proofs.Written.whole_written}
 use Rattle.base_decimals.proofs.text.write_whole.Goals as goal
 
 pub returns : goal.returns

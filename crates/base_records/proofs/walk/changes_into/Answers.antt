@@ -3,8 +3,8 @@ use Rattle.std.proofs.lemmas.List.{drop_all}
 use Rattle.base_table.specs.Tabled.{value_at}
 use Rattle.base_records.specs.Items.{change_of, changes_of}
 use Rattle.base_records.proofs.WalkLemmas.{told-all, told-more, told-same, touched-next}
-use Rattle.base_records.proofs.walk.changes_into.Goals as goal
 use Rattle.base_records.proofs.walk.changes_into.Goals.{in-Some+in_ok-push, in_default}
+use Rattle.base_records.proofs.walk.changes_into.Goals as goal
 
 pub loop-key-preserved : goal.loop-key-preserved
 loop-key-preserved g c =

@@ -1,5 +1,4 @@
-use Rattle.base_roles.proofs.AmountLemmas.{moves_by_amounts}
-use Rattle.base_roles.proofs.HoldingLemmas.{supplies-moved}
+use Rattle.base_roles.proofs.{AmountLemmas.moves_by_amounts, HoldingLemmas.supplies-moved}
 use Rattle.base_roles.proofs.laws.coins_move_by_amounts.Goals as goal
 
 pub returns : goal.returns

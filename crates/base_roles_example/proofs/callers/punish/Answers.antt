@@ -1,14 +1,10 @@
 use Rattle.std.proofs.Common.{◌≡◌, ◌∙◌, ◌+◌, true, ap, sym, subst, arith}
 use Rattle.std.proofs.lemmas.Grind.{common_steps}
-use Rattle.base_roles_example.specs.Caller.{can_be_slashed, can_be_banned}
-use Rattle.base_roles.specs.Ground.{seen}
-use Rattle.base_roles.specs.Hooks.{Stands}
-use Rattle.base_roles.specs.Staked.{validator_by_cons, lists_of, bonded_tokens, other_tokens}
+use Rattle.base_roles_example.{specs.Caller.{can_be_slashed, can_be_banned}, proofs.StakeLemmas.{slashable, bannable}}
+use Rattle.base_roles.specs.{Ground.seen, Hooks.Stands}
+use Rattle.base_roles.specs.{Staked.{validator_by_cons, lists_of, bonded_tokens, other_tokens}, Entries.at}
+use Rattle.base_roles.proofs.{HookLemmas.stands-noted, StakeLemmas.{holds-jailed, still_known}}
 use Rattle.base_types.specs.Orders.{cons_cmp}
-use Rattle.base_roles.specs.Entries.{at}
-use Rattle.base_roles.proofs.HookLemmas.{stands-noted}
-use Rattle.base_roles.proofs.StakeLemmas.{holds-jailed, still_known}
-use Rattle.base_roles_example.proofs.StakeLemmas.{slashable, bannable}
 use Rattle.base_roles_example.proofs.callers.punish.Goals as goal
 
 pub jail_if_not-requires-clause-known : goal.jail_if_not-requires-clause-known

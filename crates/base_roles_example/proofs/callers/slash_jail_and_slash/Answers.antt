@@ -1,12 +1,9 @@
 use Rattle.std.proofs.Common.{◌≡◌, ◌∙◌, ◌*◌, ◌+◌, ◌^◌, ◌≤◌, true, ap, sym, subst, arith}
 use Rattle.std.proofs.lemmas.Grind.{common_steps}
-use Rattle.base_roles_example.specs.Caller.{can_be_jailed}
-use Rattle.base_roles.specs.Ground.{seen}
-use Rattle.base_roles.specs.Hooks.{Stands}
+use Rattle.base_roles_example.{specs.Caller.can_be_jailed, proofs.StakeLemmas.jailable}
+use Rattle.base_roles.specs.{Ground.seen, Hooks.Stands}
 use Rattle.base_roles.specs.Staked.{validator_by_cons, lists_of, bonded_tokens, other_tokens}
-use Rattle.base_roles.proofs.HookLemmas.{stands-noted}
-use Rattle.base_roles.proofs.StakeLemmas.{holds-fallen, holds-jailed, on_ok, still_known}
-use Rattle.base_roles_example.proofs.StakeLemmas.{jailable}
+use Rattle.base_roles.proofs.{HookLemmas.stands-noted, StakeLemmas.{holds-fallen, holds-jailed, on_ok, still_known}}
 use Rattle.base_roles_example.proofs.callers.slash_jail_and_slash.Goals as goal
 
 pub jail-requires-clause-known : goal.jail-requires-clause-known

@@ -1,5 +1,4 @@
-use Rattle.base_roles.specs.Ground.{seen}
-use Rattle.base_roles.specs.Staked.{lists_of, bonded_tokens, other_tokens}
+use Rattle.base_roles.specs.{Ground.seen, Staked.{lists_of, bonded_tokens, other_tokens}}
 use Rattle.base_roles.proofs.StakeLemmas.{holds-rest, holds-burned, stands-burned}
 use Rattle.base_roles_example.proofs.StakeLemmas.{stands-burnt}
 use Rattle.base_roles_example.proofs.callers.slash_through_entries.Goals as goal

@@ -1,10 +1,7 @@
-use Rattle.std.proofs.Common.{sym, ◌∙◌, ap}
-use Rattle.std.specs.Prelude.{◌≡◌, is_some, length, option_map, if◌then◌else◌}
-use Rattle.std.specs.BTreeMap.{insert_entry, is_at}
-use Rattle.std.specs.Map.{lookup}
+use Rattle.std.proofs.Common.{sym, ◌∙◌, ap, ◌≡◌, is_some, length, option_map, if◌then◌else◌}
+use Rattle.std.specs.{BTreeMap.{insert_entry, is_at}, Map.lookup}
 use Rattle.base_table.specs.Places.{slot_of, slot_or, slots, IsExchanged}
-use Rattle.base_table.proofs.ChangeLemmas.{exchanged-found, exchanged-new}
-use Rattle.base_table.proofs.EachLemmas.{lookup-each}
+use Rattle.base_table.proofs.{ChangeLemmas.{exchanged-found, exchanged-new}, EachLemmas.lookup-each}
 use Rattle.base_table.proofs.PlaceLemmas.{if_ok, named_at}
 use Rattle.base_table.proofs.change.exchange.Goals as goal
 

@@ -1,6 +1,5 @@
 use Rattle.std.proofs.Common.{refl, ◌∙◌, ap}
-use Rattle.std.specs.BTreeMap.{insert_entry, is_at}
-use Rattle.std.specs.Map.{lookup}
+use Rattle.std.specs.{BTreeMap.{insert_entry, is_at}, Map.lookup}
 use Rattle.base_table.specs.Places.{slot_or}
 use Rattle.base_table.proofs.change.write.Goals as goal
 

@@ -1,7 +1,6 @@
 use Rattle.std.proofs.Common.{ap}
 use Rattle.std.specs.BTreeMap.{insert_entry}
-use Rattle.base_table.proofs.MarkLemmas.{touched-settled}
-use Rattle.base_table.proofs.RestoredLemmas.{KeepsSettled-put}
+use Rattle.base_table.proofs.{MarkLemmas.touched-settled, RestoredLemmas.KeepsSettled-put}
 use Rattle.base_table.proofs.table.put_in.Goals as goal
 
 pub returns-clause-places : goal.returns-clause-places

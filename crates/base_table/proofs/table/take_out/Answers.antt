@@ -1,8 +1,6 @@
 use Rattle.std.proofs.Common.{◌∙◌, ap}
-use Rattle.std.specs.BTreeMap.{is_at}
-use Rattle.std.specs.Map.{remove_entry}
-use Rattle.base_table.proofs.MarkLemmas.{touched-settled}
-use Rattle.base_table.proofs.RestoredLemmas.{KeepsSettled-remove}
+use Rattle.std.specs.{BTreeMap.is_at, Map.remove_entry}
+use Rattle.base_table.proofs.{MarkLemmas.touched-settled, RestoredLemmas.KeepsSettled-remove}
 use Rattle.base_table.proofs.table.take_out.Goals as goal
 
 pub returns-clause-value : goal.returns-clause-value

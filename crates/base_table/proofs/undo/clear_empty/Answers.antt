@@ -1,8 +1,6 @@
-use Rattle.std.specs.Prelude.{Some, option_map}
+use Rattle.std.proofs.Common.{Some, option_map, sym, ◌∙◌, ap, subst}
 use Rattle.std.specs.BTreeMap.{is_at}
-use Rattle.std.proofs.Common.{sym, ◌∙◌, ap, subst}
-use Rattle.base_table.specs.Places.{filled, slot_of, slots, AreNamed}
-use Rattle.base_table.proofs.EachLemmas.{lookup-each, remove-each}
+use Rattle.base_table.{specs.Places.{filled, slot_of, slots, AreNamed}, proofs.EachLemmas.{lookup-each, remove-each}}
 use Rattle.base_table.proofs.PlaceLemmas.{empty_slot, filled-clear, AreNamed-remove}
 use Rattle.base_table.proofs.undo.clear_empty.Goals as goal
 

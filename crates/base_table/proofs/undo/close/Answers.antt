@@ -1,5 +1,4 @@
-use Rattle.std.specs.Prelude.{◌≡◌, ◌+◌, ◌-◌, ◌<◌, length, drop}
-use Rattle.std.proofs.Common.{sym, ◌∙◌, ap, subst, arith}
+use Rattle.std.proofs.Common.{◌≡◌, ◌+◌, ◌-◌, ◌<◌, length, drop, sym, ◌∙◌, ap, subst, arith}
 use Rattle.base_table.specs.Places.{filled, marks_of, FitBelow, HavePlaces}
 use Rattle.base_table.proofs.UndoLemmas.{get_or-within, marks_of-closed, marks_of-fewer, no_marks, AreUnmarked, FitBelow-closed, HavePlaces-closed}
 use Rattle.base_table.proofs.undo.close.Goals as goal

@@ -1,7 +1,6 @@
 use Rattle.std.specs.BTreeMap.{is_at}
 use Rattle.std.proofs.Common.{sym, ◌∙◌, ap}
-use Rattle.base_table.specs.Places.{slots}
-use Rattle.base_table.proofs.UndoLemmas.{slots-absent, slots-put_back, stamps-put_back}
+use Rattle.base_table.{specs.Places.slots, proofs.UndoLemmas.{slots-absent, slots-put_back, stamps-put_back}}
 use Rattle.base_table.proofs.undo.put_back.Goals as goal
 
 pub returns-in_default-clause-slots : goal.returns-in_default-clause-slots

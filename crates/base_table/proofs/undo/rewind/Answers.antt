@@ -1,7 +1,5 @@
-use Rattle.std.specs.Prelude.{◌≡◌, ◌++◌}
+use Rattle.std.proofs.Common.{◌≡◌, ◌++◌, option_to_list, sym, ◌∙◌, ap, subst, arith}
 use Rattle.std.specs.BTreeMap.{is_at}
-use Rattle.std.specs.Option.{option_to_list}
-use Rattle.std.proofs.Common.{sym, ◌∙◌, ap, subst, arith}
 use Rattle.base_table.specs.Places.{marks_of, slots, Fits, FitBelow, HavePlaces}
 use Rattle.base_table.proofs.UndoLemmas.{marks_of-push, FitBelow-last, HavePlaces-last, HavePlaces-set}
 use Rattle.base_table.proofs.undo.rewind.Goals as goal

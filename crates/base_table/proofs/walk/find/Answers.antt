@@ -1,8 +1,6 @@
-use Rattle.std.specs.Prelude.{option_map}
+use Rattle.std.proofs.Common.{option_map, sym, ◌∙◌, ap}
 use Rattle.std.specs.BTreeMap.{is_at}
-use Rattle.std.proofs.Common.{sym, ◌∙◌, ap}
-use Rattle.base_table.specs.Places.{slot_of, slots}
-use Rattle.base_table.proofs.EachLemmas.{lookup-each, lookup_key-each, sorted-each}
+use Rattle.base_table.{specs.Places.{slot_of, slots}, proofs.EachLemmas.{lookup-each, lookup_key-each, sorted-each}}
 use Rattle.base_table.proofs.PlaceLemmas.{entry-filled, found_entry, shown, value-absent}
 use Rattle.base_table.proofs.walk.find.Goals as goal
 

@@ -1,10 +1,6 @@
 use Rattle.std.proofs.Common.{sym, ◌∙◌, ap}
-use Rattle.std.specs.Map.Iter.{deref_pair}
-use Rattle.std.proofs.lemmas.Map.Iter.{rest_more}
-use Rattle.std.specs.Range.Bound.{bound_map}
-use Rattle.base_table.specs.Places.{filled, slot_of, slots}
-use Rattle.base_table.specs.Tabled.{first_of}
-use Rattle.base_table.proofs.EachLemmas.{between-each}
+use Rattle.std.{specs.{Map.Iter.deref_pair, Range.Bound.bound_map}, proofs.lemmas.Map.Iter.rest_more}
+use Rattle.base_table.{specs.{Places.{filled, slot_of, slots}, Tabled.first_of}, proofs.EachLemmas.between-each}
 use Rattle.base_table.proofs.WalkLemmas.{filled-between, is_some-map, walked_on, walked_to}
 use Rattle.base_table.proofs.walk.first_from.Goals as goal
 

@@ -1,9 +1,6 @@
 use Rattle.std.proofs.Common.{◌≡◌}
-use Rattle.std.specs.BTreeMap.Range.{entries_between}
-use Rattle.std.specs.Range.Bound.{bound_map}
-use Rattle.std.specs.declared.ops.Bound.TheVariants.{Unbounded}
-use Rattle.base_table.specs.Places.{filled, slots}
-use Rattle.base_table.specs.Tabled.{first_of}
+use Rattle.std.specs.{BTreeMap.Range.entries_between, Range.Bound.bound_map, declared.ops.Bound.TheVariants.Unbounded}
+use Rattle.base_table.specs.{Places.{filled, slots}, Tabled.first_of}
 use Rattle.base_table.proofs.walk.first_from.Given as goal
 
 abbrev pub invariant-loop-stored : goal.invariant-loop-stored

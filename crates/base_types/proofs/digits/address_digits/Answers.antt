@@ -1,9 +1,6 @@
-use Rattle.std.proofs.Common.{◌∙◌, refl, arith, ◌≡◌}
-use Rattle.std.proofs.lemmas.List.{length-set}
-use Rattle.hex.specs.Hex.{lower_digits}
-use Rattle.hex.proofs.Pairs.{encode_step, encode_done}
-use Rattle.base_types.specs.Address.{address_text}
-use Rattle.base_types.proofs.DigitLemmas.{address_text_is_utf8}
+use Rattle.std.proofs.Common.{◌∙◌, refl, arith, ◌≡◌, length-set}
+use Rattle.hex.{specs.Hex.lower_digits, proofs.Pairs.{encode_step, encode_done}}
+use Rattle.base_types.{specs.Address.address_text, proofs.DigitLemmas.address_text_is_utf8}
 use Rattle.base_types.proofs.digits.address_digits.Goals as goal
 
 pub bytes-preserved : goal.bytes-preserved

@@ -1,5 +1,4 @@
-use Rattle.std.proofs.Common.{◌∙◌, ap, refl, arith, ◌*◌, ◌+◌, slice_index}
-use Rattle.std.proofs.lemmas.List.{length-set}
+use Rattle.std.proofs.Common.{◌∙◌, ap, refl, arith, ◌*◌, ◌+◌, slice_index, length-set}
 use Rattle.base_types.specs.Address.{address_of, bytes_of}
 use Rattle.base_types.proofs.DigitLemmas.{after_nothing, read_step, no_high, no_low, read_done, digit_read, digit_refused, address_of-forty}
 use Rattle.base_types.proofs.digits.read_bytes.Goals as goal

@@ -1,6 +1,5 @@
 use Rattle.std.proofs.Common.{◌≡◌, ◌*◌, length, take, drop}
-use Rattle.base_types.specs.Address.{bytes_of}
-use Rattle.base_types.proofs.DigitLemmas.{after}
+use Rattle.base_types.{specs.Address.bytes_of, proofs.DigitLemmas.after}
 use Rattle.base_types.proofs.digits.read_bytes.Given as goal
 
 -- the bytes so far come before those of the other digits

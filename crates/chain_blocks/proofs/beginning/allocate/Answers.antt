@@ -1,13 +1,9 @@
 use Rattle.std.proofs.Common.{refl}
 use Rattle.base_roles.specs.Staked.{lists_of}
 use Rattle.rule_modules.specs.Chain.{allocation_step, shared_in}
-use Rattle.chain_modules.specs.declared.modules.Modules.{Modules}
-use Rattle.chain_modules.proofs.SceneLemmas.{stand_shared}
+use Rattle.chain_modules.{specs.{declared.modules.Modules.Modules, Kept.kept_of}, proofs.SceneLemmas.stand_shared}
 use Rattle.chain_transactions.proofs.GoLemmas.{shared_on}
-use Rattle.chain_blocks.proofs.BeginLemmas.{allocated_leads}
-use Rattle.chain_blocks.proofs.CallLemmas.{cast_same, votes_kept}
-use Rattle.chain_blocks.proofs.LoopLemmas.{may_vote}
-use Rattle.chain_modules.specs.Kept.{kept_of}
+use Rattle.chain_blocks.proofs.{BeginLemmas.allocated_leads, CallLemmas.{cast_same, votes_kept}, LoopLemmas.may_vote}
 use Rattle.chain_blocks.proofs.beginning.allocate.Goals as goal
 
 pub begin_block-requires-clause-stand : goal.begin_block-requires-clause-stand

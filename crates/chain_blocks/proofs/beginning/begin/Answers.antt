@@ -1,16 +1,11 @@
-use Rattle.std.proofs.Common.{List, [], Ok, Err, sym, subst}
-use Rattle.std.specs.Prelude.{All}
-use Rattle.base_roles.specs.declared.messages.Evidence.{Evidence}
-use Rattle.base_roles.specs.declared.messages.Vote.{Vote}
-use Rattle.base_roles.specs.Flow.{each}
+use Rattle.std.proofs.Common.{List, [], Ok, Err, sym, subst, All}
+use Rattle.base_roles.specs.{declared.messages.{Evidence.Evidence, Vote.Vote}, Flow.each}
 use Rattle.rule_modules.specs.Chain.{State, allocation_step, evidence_step, vote_step}
-use Rattle.chain_blocks.specs.Answers.{Leads}
-use Rattle.chain_blocks.specs.Begun.{AreBegun, MayAllocate, MayBeBrought}
-use Rattle.std.proofs.lemmas.Result.{err_from_is_err_and}
-use Rattle.chain_modules.specs.Kept.{kept_of}
-use Rattle.chain_modules.proofs.MarkLemmas.{then_on}
+use Rattle.chain_blocks.specs.{Answers.Leads, Begun.{AreBegun, MayAllocate, MayBeBrought}}
 use Rattle.chain_blocks.proofs.BeginningLemmas.{begin_leads, allocation_stops, brought_on, may_allocate, votes_stop}
 use Rattle.chain_blocks.proofs.LoopLemmas.{steady_begun}
+use Rattle.std.proofs.lemmas.Result.{err_from_is_err_and}
+use Rattle.chain_modules.{specs.Kept.kept_of, proofs.MarkLemmas.then_on}
 use Rattle.chain_blocks.proofs.beginning.begin.Goals as goal
 
 pub allocate-requires : goal.allocate-requires

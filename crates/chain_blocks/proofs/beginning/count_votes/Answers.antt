@@ -1,14 +1,9 @@
 use Rattle.std.proofs.Common.{◌∙◌, ◌≤◌, ◌+◌, Ok, Err, [], ap, drop, length, refl, arith}
-use Rattle.std.proofs.lemmas.List.Elements.{All-head}
-use Rattle.std.proofs.lemmas.Result.{err_from_is_err_and}
-use Rattle.rule_modules.specs.Chain.{shared_in, vote_step, window_in}
-use Rattle.rule_modules.specs.StepLaws.{CountsBelow, IsPower}
-use Rattle.chain_modules.specs.declared.modules.Modules.{Modules}
-use Rattle.chain_modules.proofs.MarkLemmas.{then_on}
-use Rattle.chain_modules.proofs.SceneLemmas.{window_kept}
+use Rattle.std.proofs.lemmas.{List.Elements.All-head, Result.err_from_is_err_and}
+use Rattle.rule_modules.specs.{Chain.{shared_in, vote_step, window_in}, StepLaws.{CountsBelow, IsPower}}
+use Rattle.chain_modules.{specs.declared.modules.Modules.Modules, proofs.{MarkLemmas.then_on, SceneLemmas.window_kept}}
 use Rattle.chain_transactions.proofs.MessageLemmas.{drop_end}
-use Rattle.chain_blocks.specs.Begun.{AreBegun}
-use Rattle.chain_blocks.proofs.BeginLemmas.{vote_leads}
+use Rattle.chain_blocks.{specs.Begun.AreBegun, proofs.BeginLemmas.vote_leads}
 use Rattle.chain_blocks.proofs.CallLemmas.{counted_kept, power_kept, punishing_on, punishing_scene}
 use Rattle.chain_blocks.proofs.LoopLemmas.{all_done, all_votes_counted, no_votes_counted, one_stops, vote_counted, vote_due}
 use Rattle.chain_blocks.proofs.beginning.count_votes.Goals as goal

@@ -1,12 +1,9 @@
 use Rattle.std.proofs.Common.{◌∙◌, ◌≤◌, Ok, Err, [], ap, length, refl, arith}
 use Rattle.std.proofs.lemmas.Result.{err_from_is_err_and}
 use Rattle.rule_modules.specs.Chain.{evidence_step, shared_in}
-use Rattle.chain_modules.specs.declared.modules.Modules.{Modules}
-use Rattle.chain_modules.proofs.MarkLemmas.{then_on}
-use Rattle.chain_modules.proofs.SceneLemmas.{stand_shared}
+use Rattle.chain_modules.{specs.declared.modules.Modules.Modules, proofs.{MarkLemmas.then_on, SceneLemmas.stand_shared}}
 use Rattle.chain_transactions.proofs.MessageLemmas.{drop_end}
-use Rattle.chain_blocks.specs.Begun.{AreBegun}
-use Rattle.chain_blocks.proofs.EvidenceLemmas.{evidence_leads}
+use Rattle.chain_blocks.{specs.Begun.AreBegun, proofs.EvidenceLemmas.evidence_leads}
 use Rattle.chain_blocks.proofs.CallLemmas.{accounts_kept, core_kept, punishing_on, signers_kept}
 use Rattle.chain_blocks.proofs.LoopLemmas.{AreThrough, all_done, brought_here, evidence_handled, no_evidence_handled, one_stops}
 use Rattle.chain_blocks.proofs.beginning.handle_evidence.Goals as goal

@@ -2,8 +2,7 @@ use Rattle.std.proofs.Common.{◌∙◌, ◌^◌, ◌<◌, ◌≤◌, Ok, Err, r
 use Rattle.std.proofs.lemmas.Result.{err_from_is_err_and}
 use Rattle.base_roles.specs.World.{View}
 use Rattle.rule_machine.specs.Machine.{step}
-use Rattle.chain_modules.specs.declared.modules.Modules.{Modules}
-use Rattle.chain_modules.specs.Kept.{KeptState, kept_of, kept_over, parts_of}
+use Rattle.chain_modules.specs.{declared.modules.Modules.Modules, Kept.{KeptState, kept_of, kept_over, parts_of}}
 use Rattle.chain_modules.proofs.MarkLemmas.{one_more_some}
 use Rattle.chain_blocks.specs.Answers.{AnswersStep, Applies, parts_stepped}
 use Rattle.chain_blocks.proofs.ApplyLemmas.{back_kept, back_marks, begins, begun_kept, rest_closed, rest_same, settled_behind, still_open}

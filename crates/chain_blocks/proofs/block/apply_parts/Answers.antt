@@ -1,10 +1,8 @@
 use Rattle.std.proofs.Common.{◌≡◌, ◌∙◌, List, Err, sym, subst}
 use Rattle.base_messages.specs.declared.block.Tx.{Tx}
 use Rattle.rule_modules.specs.Chain.{State}
-use Rattle.rule_machine.specs.GenesisState.{without_facts}
-use Rattle.rule_machine.specs.Machine.{txs_applied}
-use Rattle.chain_modules.specs.declared.modules.Modules.{Modules}
-use Rattle.chain_modules.specs.Kept.{StandsWhole, kept_of}
+use Rattle.rule_machine.specs.{GenesisState.without_facts, Machine.txs_applied}
+use Rattle.chain_modules.specs.{declared.modules.Modules.Modules, Kept.{StandsWhole, kept_of}}
 use Rattle.chain_blocks.specs.Answers.{AnswersStep, parts_stepped}
 use Rattle.chain_blocks.proofs.ApplyLemmas.{IsTaken, end_stopped, parts_done, taken_behind, taken_steady}
 use Rattle.chain_blocks.proofs.BlockLemmas.{begin_stops, record_stops}

@@ -2,8 +2,7 @@ use Rattle.std.proofs.Common.{Err}
 use Rattle.std.proofs.lemmas.Result.{err_from_is_err_and}
 use Rattle.base_roles.specs.Flow.{◌>>=◌}
 use Rattle.rule_modules.specs.Chain.{maturing_step, redelegations_step, set_step, unbondings_step}
-use Rattle.chain_modules.specs.Kept.{StandsWhole, kept_of}
-use Rattle.chain_modules.proofs.MarkLemmas.{then_on}
+use Rattle.chain_modules.{specs.Kept.{StandsWhole, kept_of}, proofs.MarkLemmas.then_on}
 use Rattle.chain_blocks.proofs.LeadLemmas.{stop_leads, then_leads}
 use Rattle.chain_blocks.proofs.ending.end.Goals as goal
 

@@ -1,6 +1,5 @@
-use Rattle.chain_modules.specs.Kept.{kept_of}
+use Rattle.chain_modules.{specs.Kept.kept_of, proofs.SceneLemmas.stake_scene}
 use Rattle.rule_modules.specs.Chain.{set_step}
-use Rattle.chain_modules.proofs.SceneLemmas.{stake_scene}
 use Rattle.chain_blocks.proofs.EndLemmas.{set_next, step_leads, steady_on}
 use Rattle.chain_blocks.proofs.ending.make_set.Goals as goal
 

@@ -1,10 +1,8 @@
 use Rattle.std.proofs.Common.{[], refl}
-use Rattle.chain_modules.specs.declared.modules.Modules.{Modules}
-use Rattle.chain_modules.specs.Kept.{kept_of}
+use Rattle.chain_modules.{specs.{declared.modules.Modules.Modules, Kept.kept_of}, proofs.HookLemmas.held_as}
+use Rattle.chain_modules.proofs.SceneLemmas.{hooked_kept}
 use Rattle.rule_modules.specs.Chain.{maturing_step}
 use Rattle.chain_transactions.proofs.GoLemmas.{all_on, listener_behind, unheard}
-use Rattle.chain_modules.proofs.HookLemmas.{held_as}
-use Rattle.chain_modules.proofs.SceneLemmas.{hooked_kept}
 use Rattle.chain_blocks.proofs.EndLemmas.{matured_leads, maturing_next, step_leads, steady_on}
 use Rattle.chain_blocks.proofs.ending.mature.Goals as goal
 

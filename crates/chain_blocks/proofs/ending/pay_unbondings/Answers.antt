@@ -1,9 +1,8 @@
 use Rattle.std.proofs.Common.{refl}
-use Rattle.chain_modules.specs.declared.modules.Modules.{Modules}
-use Rattle.chain_modules.specs.Kept.{kept_of}
+use Rattle.chain_modules.specs.{declared.modules.Modules.Modules, Kept.kept_of}
+use Rattle.chain_modules.proofs.SceneLemmas.{entries_account, ground_kept, unbonding_scene}
 use Rattle.rule_modules.specs.Chain.{unbondings_step}
 use Rattle.chain_transactions.proofs.GoLemmas.{all_on}
-use Rattle.chain_modules.proofs.SceneLemmas.{entries_account, ground_kept, unbonding_scene}
 use Rattle.chain_blocks.proofs.EndLemmas.{step_leads, steady_on, unbondings_lead, unbondings_next}
 use Rattle.chain_blocks.proofs.ending.pay_unbondings.Goals as goal
 

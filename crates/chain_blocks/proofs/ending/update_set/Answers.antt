@@ -1,6 +1,5 @@
 use Rattle.std.proofs.Common.{[], refl}
-use Rattle.chain_modules.specs.declared.modules.Modules.{Modules}
-use Rattle.chain_modules.proofs.HookLemmas.{held_as}
+use Rattle.chain_modules.{specs.declared.modules.Modules.Modules, proofs.HookLemmas.held_as}
 use Rattle.chain_transactions.proofs.GoLemmas.{all_on, listener_behind, unheard}
 use Rattle.chain_blocks.proofs.EndLemmas.{set_leads}
 use Rattle.chain_blocks.proofs.ending.update_set.Goals as goal

@@ -1,7 +1,6 @@
 use Rattle.std.proofs.Common.{◌++◌}
 use Rattle.base_records.proofs.KindLemmas.{added-twice, on_ok}
-use Rattle.chain_modules.specs.Marks.{hooks_kept, hooks_settled}
-use Rattle.chain_modules.proofs.ItemLemmas.{hooks_changed}
+use Rattle.chain_modules.{specs.Marks.{hooks_kept, hooks_settled}, proofs.ItemLemmas.hooks_changed}
 use Rattle.chain_modules.proofs.listing.hook_changes_into.Goals as goal
 
 pub returns-clause-changes : goal.returns-clause-changes

@@ -1,8 +1,6 @@
 use Rattle.std.proofs.Common.{◌++◌}
 use Rattle.base_records.proofs.KindLemmas.{added-twice, on_ok}
-use Rattle.chain_modules.specs.Kept.{stakes_kept}
-use Rattle.chain_modules.specs.Marks.{stakes_settled}
-use Rattle.chain_modules.proofs.ItemLemmas.{stakes_changed}
+use Rattle.chain_modules.{specs.{Kept.stakes_kept, Marks.stakes_settled}, proofs.ItemLemmas.stakes_changed}
 use Rattle.chain_modules.proofs.listing.stake_changes_into.Goals as goal
 
 pub returns-clause-changes : goal.returns-clause-changes

@@ -1,6 +1,5 @@
 use Rattle.std.proofs.Common.{◌∙◌, ap}
-use Rattle.chain_modules.specs.Marks.{StakeMarks}
-use Rattle.chain_modules.proofs.MarkLemmas.{forgotten, one_more_some}
+use Rattle.chain_modules.{specs.Marks.StakeMarks, proofs.MarkLemmas.{forgotten, one_more_some}}
 use Rattle.chain_modules.proofs.marks.mark_beside.Goals as goal
 
 pub forget_stakes-requires-clause-staking : goal.forget_stakes-requires-clause-staking

@@ -1,7 +1,6 @@
 use Rattle.std.proofs.Common.{refl}
 use Rattle.base_roles.specs.Staked.{lists_of}
-use Rattle.chain_modules.specs.declared.modules.Modules.{Modules}
-use Rattle.chain_modules.proofs.SceneLemmas.{stand_shared}
+use Rattle.chain_modules.{specs.declared.modules.Modules.Modules, proofs.SceneLemmas.stand_shared}
 use Rattle.chain_transactions.proofs.CallLemmas.{fund_well}
 use Rattle.chain_transactions.proofs.distributing.fund_community_pool.Goals as goal
 

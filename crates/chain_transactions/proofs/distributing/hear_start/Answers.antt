@@ -1,9 +1,6 @@
 use Rattle.std.proofs.Common.{true, false, refl}
-use Rattle.base_roles.specs.Owing.{Lists}
-use Rattle.base_roles.specs.World.{modified}
-use Rattle.base_roles.proofs.ListenLemmas.{quiet_may, quiet_leaves}
-use Rattle.chain_modules.specs.declared.modules.Modules.{Modules}
-use Rattle.chain_modules.specs.Kept.{ground_of}
+use Rattle.base_roles.{specs.{Owing.Lists, World.modified}, proofs.ListenLemmas.{quiet_may, quiet_leaves}}
+use Rattle.chain_modules.specs.{declared.modules.Modules.Modules, Kept.ground_of}
 use Rattle.chain_transactions.proofs.GoLemmas.{all_on, heard_kept, heard_wants}
 use Rattle.chain_transactions.proofs.distributing.hear_start.Goals as goal
 

@@ -1,8 +1,6 @@
 use Rattle.std.proofs.Common.{◌≡◌, Ok, refl}
 use Rattle.chain_modules.specs.declared.modules.Modules.{Modules}
-use Rattle.chain_transactions.specs.Answers.{delegation_asked}
-use Rattle.chain_transactions.proofs.AskLemmas.{may_ask}
-use Rattle.chain_transactions.proofs.CallLemmas.{reward_well}
+use Rattle.chain_transactions.{specs.Answers.delegation_asked, proofs.{AskLemmas.may_ask, CallLemmas.reward_well}}
 use Rattle.chain_transactions.proofs.distributing.renew.Goals as goal
 
 pub withdraw_reward-requires : goal.withdraw_reward-requires

@@ -1,7 +1,6 @@
 use Rattle.std.proofs.Common.{Ok, refl}
 use Rattle.base_roles.specs.Staked.{lists_of}
-use Rattle.chain_modules.specs.declared.modules.Modules.{Modules}
-use Rattle.chain_modules.proofs.SceneLemmas.{stand_shared}
+use Rattle.chain_modules.{specs.declared.modules.Modules.Modules, proofs.SceneLemmas.stand_shared}
 use Rattle.chain_transactions.proofs.CallLemmas.{commission_well}
 use Rattle.chain_transactions.proofs.distributing.withdraw_commission.Goals as goal
 

@@ -2,13 +2,9 @@ use Rattle.std.proofs.Common.{◌∙◌, Ok, sym, ap, subst}
 use Rattle.std.proofs.lemmas.Result.{err_from_is_err_and}
 use Rattle.base_roles.specs.Stops.{stop_of_hook}
 use Rattle.rule_modules.specs.Effects.{withdraw_reward}
-use Rattle.chain_modules.specs.Kept.{kept_of}
-use Rattle.chain_modules.proofs.MarkLemmas.{then_on}
-use Rattle.chain_modules.proofs.SceneLemmas.{ground_kept}
+use Rattle.chain_modules.{specs.Kept.kept_of, proofs.{MarkLemmas.then_on, SceneLemmas.ground_kept}}
 use Rattle.chain_modules.proofs.StandLemmas.{whole_same}
-use Rattle.chain_transactions.specs.Answers.{MessageEnds}
-use Rattle.chain_transactions.proofs.AskLemmas.{asked_fits}
-use Rattle.chain_transactions.proofs.FeeLemmas.{steady_then}
+use Rattle.chain_transactions.{specs.Answers.MessageEnds, proofs.{AskLemmas.asked_fits, FeeLemmas.steady_then}}
 use Rattle.chain_transactions.proofs.MessageLemmas.{wants_behind}
 use Rattle.chain_transactions.proofs.distributing.withdraw_reward.Goals as goal
 

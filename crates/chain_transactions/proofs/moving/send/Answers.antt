@@ -2,8 +2,7 @@ use Rattle.std.proofs.Common.{refl}
 use Rattle.base_roles.specs.Ground.{CanBeUndone}
 use Rattle.mod_bank.specs.Booked.{behind}
 use Rattle.chain_modules.specs.declared.modules.Modules.{Modules}
-use Rattle.chain_transactions.proofs.CallLemmas.{send_well}
-use Rattle.chain_transactions.proofs.GoLemmas.{transfers_follow}
+use Rattle.chain_transactions.proofs.{CallLemmas.send_well, GoLemmas.transfers_follow}
 use Rattle.chain_transactions.proofs.moving.send.Goals as goal
 
 pub returns-clause-ends : goal.returns-clause-ends

@@ -1,8 +1,6 @@
 use Rattle.std.proofs.Common.{refl}
-use Rattle.chain_modules.specs.declared.modules.Modules.{Modules}
-use Rattle.chain_modules.proofs.SceneLemmas.{scene_kept}
-use Rattle.chain_transactions.proofs.GoLemmas.{listener_behind}
-use Rattle.chain_transactions.proofs.CallLemmas.{create_well}
+use Rattle.chain_modules.{specs.declared.modules.Modules.Modules, proofs.SceneLemmas.scene_kept}
+use Rattle.chain_transactions.proofs.{GoLemmas.listener_behind, CallLemmas.create_well}
 use Rattle.chain_transactions.proofs.staking.create_validator.Goals as goal
 
 pub create_validator-requires : goal.create_validator-requires

@@ -1,8 +1,6 @@
 use Rattle.std.proofs.Common.{Ok, Err, refl}
-use Rattle.chain_modules.specs.declared.modules.Modules.{Modules}
-use Rattle.chain_modules.proofs.SceneLemmas.{scene_kept}
-use Rattle.chain_transactions.proofs.GoLemmas.{listener_behind}
-use Rattle.chain_transactions.proofs.CallLemmas.{delegate_well}
+use Rattle.chain_modules.{specs.declared.modules.Modules.Modules, proofs.SceneLemmas.scene_kept}
+use Rattle.chain_transactions.proofs.{GoLemmas.listener_behind, CallLemmas.delegate_well}
 use Rattle.chain_transactions.proofs.staking.delegate.Goals as goal
 
 pub delegate_coin-answer-requires : goal.delegate_coin-answer-requires

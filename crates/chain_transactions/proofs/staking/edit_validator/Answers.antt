@@ -1,7 +1,6 @@
 use Rattle.std.proofs.Common.{refl}
 use Rattle.chain_modules.specs.declared.modules.Modules.{Modules}
-use Rattle.chain_transactions.proofs.CallLemmas.{edit_well}
-use Rattle.chain_transactions.proofs.GoLemmas.{ground_stays}
+use Rattle.chain_transactions.proofs.{CallLemmas.edit_well, GoLemmas.ground_stays}
 use Rattle.chain_transactions.proofs.staking.edit_validator.Goals as goal
 
 pub returns-clause-ends : goal.returns-clause-ends

@@ -1,6 +1,5 @@
 use Rattle.std.proofs.Common.{◌≡◌, refl}
-use Rattle.chain_modules.specs.declared.modules.Modules.{Modules}
-use Rattle.chain_modules.proofs.SceneLemmas.{hooked_kept, window_kept}
+use Rattle.chain_modules.{specs.declared.modules.Modules.Modules, proofs.SceneLemmas.{hooked_kept, window_kept}}
 use Rattle.chain_transactions.proofs.CallLemmas.{unjail_well}
 use Rattle.chain_transactions.proofs.staking.unjail.Goals as goal
 

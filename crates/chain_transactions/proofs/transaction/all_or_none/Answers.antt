@@ -3,9 +3,8 @@ use Rattle.base_roles.specs.Ground.{SameMoment}
 use Rattle.rule_machine.specs.Messages.{effect_of}
 use Rattle.rule_modules.specs.Effects.{effects_of}
 use Rattle.chain_transactions.specs.Answers.{MessagesEnd}
-use Rattle.chain_modules.specs.Kept.{KeptState, kept_of, kept_over, parts_of}
-use Rattle.chain_modules.proofs.StandLemmas.{whole_same}
 use Rattle.chain_transactions.proofs.TransactionLemmas.{accepted_ends, undone, refused_ends}
+use Rattle.chain_modules.{specs.Kept.{KeptState, kept_of, kept_over, parts_of}, proofs.StandLemmas.whole_same}
 use Rattle.chain_transactions.proofs.transaction.all_or_none.Goals as goal
 
 pub returns-in-Ok-Some-clause-ended : goal.returns-in-Ok-Some-clause-ended

@@ -1,8 +1,6 @@
 use Rattle.std.proofs.Common.{◌≡◌, ◌∙◌}
-use Rattle.rule_machine.specs.GenesisState.{without_facts}
-use Rattle.rule_machine.specs.Machine.{tx_applied}
-use Rattle.chain_modules.specs.declared.modules.Modules.{Modules}
-use Rattle.chain_modules.specs.Kept.{KeptState, kept_of}
+use Rattle.rule_machine.specs.{GenesisState.without_facts, Machine.tx_applied}
+use Rattle.chain_modules.specs.{declared.modules.Modules.Modules, Kept.{KeptState, kept_of}}
 use Rattle.chain_modules.proofs.StandLemmas.{cleared}
 use Rattle.chain_transactions.proofs.TransactionLemmas.{left_stands}
 use Rattle.chain_transactions.proofs.transaction.apply_transaction.Goals as goal

@@ -1,11 +1,9 @@
-use Rattle.std.proofs.Common.{List, map, subst}
-use Rattle.std.specs.Prelude.{IfOk}
+use Rattle.std.proofs.Common.{List, map, subst, IfOk}
 use Rattle.rule_machine.specs.Messages.{effect_of}
 use Rattle.base_messages.specs.declared.message.Msg.{Msg}
 use Rattle.rule_modules.specs.Effects.{fee_paid, effects_of, stands_or_fee}
-use Rattle.chain_transactions.specs.Answers.{EndsAs}
+use Rattle.chain_transactions.{specs.Answers.EndsAs, proofs.TransactionLemmas.all_paid_ends}
 use Rattle.chain_modules.specs.Kept.{kept_of}
-use Rattle.chain_transactions.proofs.TransactionLemmas.{all_paid_ends}
 use Rattle.chain_transactions.proofs.transaction.pay_and_apply.Goals as goal
 
 pub returns-then-branch-clause-ended : goal.returns-then-branch-clause-ended

@@ -3,11 +3,8 @@ use Rattle.base_types.specs.declared.account.Account.TheVariants as account
 use Rattle.base_types.specs.declared.account.Module.TheVariants as holder
 use Rattle.base_roles.specs.Ground.{CanBeUndone}
 use Rattle.mod_bank.specs.Booked.{behind}
-use Rattle.chain_modules.specs.Kept.{kept_of}
-use Rattle.chain_modules.specs.declared.modules.Modules.{Modules}
-use Rattle.chain_modules.specs.Marks.{GoOn}
-use Rattle.chain_transactions.proofs.FeeLemmas.{fee_stands, fee_steady}
-use Rattle.chain_transactions.proofs.GoLemmas.{all_on, sends_follow}
+use Rattle.chain_modules.specs.{Kept.kept_of, declared.modules.Modules.Modules, Marks.GoOn}
+use Rattle.chain_transactions.proofs.{FeeLemmas.{fee_stands, fee_steady}, GoLemmas.{all_on, sends_follow}}
 use Rattle.chain_transactions.proofs.HeldLemmas.{fee_sent}
 use Rattle.chain_transactions.proofs.transaction.pay_fee.Goals as goal
 

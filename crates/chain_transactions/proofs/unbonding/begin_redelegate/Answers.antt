@@ -1,8 +1,6 @@
 use Rattle.std.proofs.Common.{[], refl}
-use Rattle.chain_modules.specs.declared.modules.Modules.{Modules}
-use Rattle.chain_modules.proofs.SceneLemmas.{redelegation_scene}
-use Rattle.chain_transactions.proofs.GoLemmas.{listener_behind}
-use Rattle.chain_transactions.proofs.CallLemmas.{redelegate_well}
+use Rattle.chain_modules.{specs.declared.modules.Modules.Modules, proofs.SceneLemmas.redelegation_scene}
+use Rattle.chain_transactions.proofs.{GoLemmas.listener_behind, CallLemmas.redelegate_well}
 use Rattle.chain_transactions.proofs.unbonding.begin_redelegate.Goals as goal
 
 pub begin-requires : goal.begin-requires

@@ -1,8 +1,6 @@
 use Rattle.std.proofs.Common.{[], refl}
-use Rattle.chain_modules.specs.declared.modules.Modules.{Modules}
-use Rattle.chain_modules.proofs.SceneLemmas.{unbonding_scene}
-use Rattle.chain_transactions.proofs.GoLemmas.{listener_behind}
-use Rattle.chain_transactions.proofs.CallLemmas.{cancel_well}
+use Rattle.chain_modules.{specs.declared.modules.Modules.Modules, proofs.SceneLemmas.unbonding_scene}
+use Rattle.chain_transactions.proofs.{GoLemmas.listener_behind, CallLemmas.cancel_well}
 use Rattle.chain_transactions.proofs.unbonding.cancel_unbonding.Goals as goal
 
 pub cancel-requires : goal.cancel-requires

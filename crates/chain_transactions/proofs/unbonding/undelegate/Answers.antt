@@ -1,8 +1,6 @@
 use Rattle.std.proofs.Common.{[], Ok, Err, refl}
-use Rattle.chain_modules.specs.declared.modules.Modules.{Modules}
-use Rattle.chain_modules.proofs.SceneLemmas.{unbonding_scene, whole_kept}
-use Rattle.chain_transactions.proofs.GoLemmas.{listener_behind}
-use Rattle.chain_transactions.proofs.CallLemmas.{undelegate_well}
+use Rattle.chain_modules.{specs.declared.modules.Modules.Modules, proofs.SceneLemmas.{unbonding_scene, whole_kept}}
+use Rattle.chain_transactions.proofs.{GoLemmas.listener_behind, CallLemmas.undelegate_well}
 use Rattle.chain_transactions.proofs.unbonding.undelegate.Goals as goal
 
 pub undelegate-answer-requires-clause-scene : goal.undelegate-answer-requires-clause-scene

@@ -1,11 +1,8 @@
 use Rattle.std.proofs.Common.{◌≡◌, Err, refl, sym, subst, rules}
 use Rattle.base_roles.specs.declared.faults.MessageFault.TheVariants as stop
 use Rattle.base_roles.proofs.RangeLemmas.{in_range}
-use Rattle.rule_modules.specs.Parameters.{update_params}
-use Rattle.rule_modules.proofs.ParameterLemmas.{let_in}
-use Rattle.chain_modules.specs.declared.modules.Modules.{Modules}
-use Rattle.chain_modules.specs.Kept.{kept_of}
-use Rattle.chain_modules.specs.Marks.{behind_of}
+use Rattle.rule_modules.{specs.Parameters.update_params, proofs.ParameterLemmas.let_in}
+use Rattle.chain_modules.specs.{declared.modules.Modules.Modules, Kept.kept_of, Marks.behind_of}
 use Rattle.chain_modules.proofs.MarkLemmas.{at_moment, stay_on}
 use Rattle.chain_transactions.specs.Answers.{MessageEnds}
 use Rattle.chain_transactions.proofs.UpdateLemmas.{IsUpdated, update_ends, update_on, update_steady, update_stops, update_wants, window_on, window_some}

@@ -1,8 +1,5 @@
-use Rattle.std.proofs.Common.{◌≡◌, ◌∙◌, Bool, map, ap}
-use Rattle.std.specs.Prelude.{◌||◌}
-use Rattle.std.specs.declared.cmp.Ordering.{Ordering}
-use Rattle.base_types.specs.declared.account.Account.{Account}
-use Rattle.base_types.specs.Orders.{account_cmp}
+use Rattle.std.proofs.Common.{◌≡◌, ◌∙◌, Bool, map, ap, ◌||◌, Ordering}
+use Rattle.base_types.specs.{declared.account.Account.Account, Orders.account_cmp}
 use Rattle.base_types.proofs.OrderLemmas.{account_order-account_cmp}
 use Rattle.base_messages.specs.declared.genesis.GenesisAccount.{GenesisAccount}
 use Rattle.base_coins.specs.Coins.{has_repeats}

@@ -1,5 +1,4 @@
-use Rattle.std.proofs.Common.{◌≡◌, take, map}
-use Rattle.std.specs.Prelude.{All}
+use Rattle.std.proofs.Common.{◌≡◌, take, map, All}
 use Rattle.chain_whole.proofs.StartLemmas.{pair_of, HasMoney}
 use Rattle.chain_whole.proofs.accounts.holders.Given as goal
 

@@ -3,8 +3,7 @@ use Rattle.base_coins.specs.Coins.{Money}
 use Rattle.rule_machine.specs.Genesis.{has_too_much, denominations_with}
 use Rattle.chain_whole.specs.Supplies.{IsLow}
 use Rattle.chain_whole.proofs.ConditionLemmas.{holds_first, fails_first, at_none, at_some, many_test}
-use Rattle.chain_whole.proofs.DelegatedLemmas.{at_start}
-use Rattle.chain_whole.proofs.SupplyLemmas.{too_much, not_too_much}
+use Rattle.chain_whole.proofs.{DelegatedLemmas.at_start, SupplyLemmas.{too_much, not_too_much}}
 use Rattle.chain_whole.proofs.conditions.amount_condition.Goals as goal
 
 pub returns-in-None-clause-number : goal.returns-in-None-clause-number

@@ -1,5 +1,4 @@
-use Rattle.std.proofs.Common.{◌≡◌, ◌∙◌, ℕ, true, false, ◌∷◌, ◌++◌, Option, Some, sym, ap}
-use Rattle.std.specs.Prelude.{not, ◌||◌, nat_le}
+use Rattle.std.proofs.Common.{◌≡◌, ◌∙◌, ℕ, true, false, ◌∷◌, ◌++◌, Option, Some, sym, ap, not, ◌||◌, nat_le}
 use Rattle.base_roles.specs.Ground.{end_of_blocks}
 use Rattle.rule_machine.specs.Genesis.{are_in_range, has_wrong_account, first_that_holds}
 use Rattle.rule_machine.specs.GenesisConditions.{start_condition}

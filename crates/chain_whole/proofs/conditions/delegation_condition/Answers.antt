@@ -1,7 +1,5 @@
-use Rattle.std.proofs.Common.{◌≡◌, ◌∙◌, true, false, [], Some, None, refl, sym, ap}
-use Rattle.base_messages.specs.declared.genesis.GenesisDelegation.{GenesisDelegation}
-use Rattle.base_messages.specs.declared.genesis.GenesisValidator.{GenesisValidator}
-use Rattle.std.specs.Prelude.{List}
+use Rattle.std.proofs.Common.{◌≡◌, ◌∙◌, true, false, [], Some, None, refl, sym, ap, List}
+use Rattle.base_messages.specs.declared.genesis.{GenesisDelegation.GenesisDelegation, GenesisValidator.GenesisValidator}
 use Rattle.rule_machine.specs.GenesisConditions.{has_unknown_operator, has_pair_twice, has_empty_delegation, has_lonely_validator}
 use Rattle.chain_whole.proofs.ConditionLemmas.{holds_first, fails_first, lonely_test, empty_tests, pair_tests}
 use Rattle.chain_whole.proofs.conditions.delegation_condition.Goals as goal

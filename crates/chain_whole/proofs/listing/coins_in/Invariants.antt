@@ -1,5 +1,4 @@
-use Rattle.std.proofs.Common.{◌≡◌, take}
-use Rattle.std.specs.List.{filter_map}
+use Rattle.std.proofs.Common.{◌≡◌, take, filter_map}
 use Rattle.chain_whole.specs.Chained.{coin_in}
 use Rattle.chain_whole.proofs.listing.coins_in.Given as goal
 

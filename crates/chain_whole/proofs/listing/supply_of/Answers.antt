@@ -1,5 +1,4 @@
-use Rattle.std.proofs.Common.{◌≡◌, ◌∙◌, List, ◌++◌, map, sym, ap, subst}
-use Rattle.std.specs.List.{filter_map}
+use Rattle.std.proofs.Common.{◌≡◌, ◌∙◌, List, ◌++◌, map, sym, ap, subst, filter_map}
 use Rattle.base_coins.specs.Coins.{sorted_coins, stands_twice}
 use Rattle.mod_bank.specs.Items.{items_of}
 use Rattle.base_roles.specs.declared.items.Item.{Item}

@@ -1,8 +1,6 @@
-use Rattle.std.proofs.Common.{◌≡◌, ◌∙◌, true, List, ◌++◌, sym, subst}
-use Rattle.std.specs.Prelude.{OnOk}
+use Rattle.std.proofs.Common.{◌≡◌, ◌∙◌, true, List, ◌++◌, sym, subst, OnOk}
 use Rattle.base_messages.specs.declared.report.Pending.{Pending}
-use Rattle.chain_whole.specs.Pending.{is_delegation_of}
-use Rattle.chain_whole.proofs.OwnLemmas.{own_given}
+use Rattle.chain_whole.{specs.Pending.is_delegation_of, proofs.OwnLemmas.own_given}
 use Rattle.chain_whole.proofs.pending.append_own.Goals as goal
 
 pub returns : goal.returns

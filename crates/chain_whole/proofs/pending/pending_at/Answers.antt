@@ -1,11 +1,7 @@
-use Rattle.std.proofs.Common.{◌≡◌, ◌∙◌, Some, sym, ap}
-use Rattle.std.specs.Prelude.{IsSome, is_some}
-use Rattle.std.specs.Option.{option_copied}
+use Rattle.std.proofs.Common.{◌≡◌, ◌∙◌, Some, sym, ap, IsSome, is_some, option_copied}
 use Rattle.base_table.proofs.WalkLemmas.{is_some-map}
-use Rattle.base_roles.specs.Staked.{validator_at}
-use Rattle.base_roles.specs.World.{View}
-use Rattle.rule_modules.specs.Chain.{shared_in}
-use Rattle.rule_modules.specs.Distribution.{pending}
+use Rattle.base_roles.specs.{Staked.validator_at, World.View}
+use Rattle.rule_modules.specs.{Chain.shared_in, Distribution.pending}
 use Rattle.chain_modules.specs.Kept.{kept_of}
 use Rattle.chain_whole.proofs.AskingLemmas.{has_shares, is_known, is_started, pends}
 use Rattle.chain_whole.proofs.pending.pending_at.Goals as goal

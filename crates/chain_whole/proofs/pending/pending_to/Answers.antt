@@ -1,8 +1,7 @@
 use Rattle.std.proofs.Common.{◌≡◌, ◌∙◌, ◌++◌, List, ap, arith}
 use Rattle.base_roles.specs.declared.items.Item.{Item}
 use Rattle.mod_staking.specs.Items.{items_of}
-use Rattle.chain_whole.proofs.OwnLemmas.{all_own, own_more}
-use Rattle.chain_whole.proofs.PendingLemmas.{one_stands}
+use Rattle.chain_whole.proofs.{OwnLemmas.{all_own, own_more}, PendingLemmas.one_stands}
 use Rattle.chain_whole.proofs.pending.pending_to.Goals as goal
 
 pub loop-item-init : goal.loop-item-init

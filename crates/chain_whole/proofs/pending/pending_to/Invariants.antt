@@ -1,5 +1,4 @@
-use Rattle.std.proofs.Common.{◌≡◌, take}
-use Rattle.std.specs.List.{flat_map}
+use Rattle.std.proofs.Common.{◌≡◌, take, flat_map}
 use Rattle.rule_modules.specs.Chain.{State}
 use Rattle.chain_modules.specs.Kept.{StandsFor, kept_of}
 use Rattle.chain_whole.specs.Pending.{own_of_item}

@@ -1,9 +1,7 @@
 use Rattle.std.proofs.Common.{◌≡◌, ◌∙◌, Some, Ok, Err, refl, sym, ap}
-use Rattle.base_roles.specs.declared.params.Ctx.{Ctx}
-use Rattle.base_roles.specs.Staked.{validator_at}
+use Rattle.base_roles.specs.{declared.params.Ctx.Ctx, Staked.validator_at}
 use Rattle.rule_modules.specs.Chain.{Stakes}
-use Rattle.chain_modules.specs.declared.modules.Modules.{Modules}
-use Rattle.chain_modules.proofs.HookLemmas.{held_as}
+use Rattle.chain_modules.{specs.declared.modules.Modules.Modules, proofs.HookLemmas.held_as}
 use Rattle.chain_transactions.proofs.GoLemmas.{hooked_on}
 use Rattle.chain_whole.proofs.AddingLemmas.{delegated_added, delegation_sure, the_validator}
 use Rattle.chain_whole.proofs.start.add_delegation.Goals as goal

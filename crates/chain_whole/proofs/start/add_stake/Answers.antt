@@ -1,7 +1,6 @@
 use Rattle.std.proofs.Common.{◌∙◌, sym, ap}
 use Rattle.base_roles.specs.declared.params.Ctx.{Ctx}
-use Rattle.chain_modules.specs.Kept.{kept_of}
-use Rattle.chain_modules.proofs.MarkLemmas.{then_on}
+use Rattle.chain_modules.{specs.Kept.kept_of, proofs.MarkLemmas.then_on}
 use Rattle.chain_whole.proofs.FoundingLemmas.{set_made, set_sure}
 use Rattle.chain_whole.proofs.start.add_stake.Goals as goal
 

@@ -1,12 +1,9 @@
 use Rattle.std.proofs.Common.{◌∙◌, Ok, Err, refl, sym, ap, subst}
-use Rattle.base_roles.specs.declared.messages.CreateValidator.{CreateValidator}
-use Rattle.base_roles.specs.declared.params.Ctx.{Ctx}
+use Rattle.base_roles.specs.declared.{messages.CreateValidator.CreateValidator, params.Ctx.Ctx}
 use Rattle.base_roles.specs.Staked.{validator_at, validator_by_cons}
-use Rattle.rule_modules.specs.Answers.{Leaves}
-use Rattle.rule_modules.specs.Validators.{new_validator, stored}
+use Rattle.rule_modules.specs.{Answers.Leaves, Validators.{new_validator, stored}}
 use Rattle.mod_staking.specs.Calls.{HasRates, over}
-use Rattle.chain_modules.specs.declared.modules.Modules.{Modules}
-use Rattle.chain_modules.specs.Kept.{ground_of, hooks_hold, hooks_tell}
+use Rattle.chain_modules.specs.{declared.modules.Modules.Modules, Kept.{ground_of, hooks_hold, hooks_tell}}
 use Rattle.chain_modules.proofs.HookLemmas.{held_as}
 use Rattle.chain_transactions.proofs.GoLemmas.{hooked_on}
 use Rattle.chain_whole.proofs.AddingLemmas.{admission_sure, admitted_added}

@@ -1,7 +1,6 @@
 use Rattle.std.proofs.Common.{◌∙◌, sym, subst}
 use Rattle.mod_distribution.specs.Items.{AreInOrder}
-use Rattle.chain_modules.specs.Kept.{Parts, kept_of}
-use Rattle.chain_modules.proofs.MarkLemmas.{marks_behind}
+use Rattle.chain_modules.{specs.Kept.{Parts, kept_of}, proofs.MarkLemmas.marks_behind}
 use Rattle.chain_whole.proofs.StartedLemmas.{at_rest, good_start, once_cleared, starts}
 use Rattle.chain_whole.proofs.start.found.Goals as goal
 

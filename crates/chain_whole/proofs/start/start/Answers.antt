@@ -1,8 +1,6 @@
 use Rattle.mod_distribution.specs.Items.{AreInOrder}
-use Rattle.chain_modules.specs.Kept.{kept_of, parts_of}
-use Rattle.chain_modules.specs.Marks.{AreAtRest, settled_of}
-use Rattle.chain_whole.specs.Answers.{Starts}
-use Rattle.chain_whole.specs.declared.fault.ChainFault.TheVariants.{NoMemory}
+use Rattle.chain_modules.specs.{Kept.{kept_of, parts_of}, Marks.{AreAtRest, settled_of}}
+use Rattle.chain_whole.specs.{Answers.Starts, declared.fault.ChainFault.TheVariants.NoMemory}
 use Rattle.chain_whole.proofs.StartedLemmas.{founded_ok, founded_err}
 use Rattle.std.proofs.Common.{◌≡◌}
 use Rattle.chain_whole.proofs.start.start.Goals as goal

@@ -1,7 +1,6 @@
 use Rattle.std.proofs.Common.{◌≡◌, ◌∙◌, map, sym, ap, subst}
 use Rattle.base_roles.specs.Holdings.{Holdings}
-use Rattle.mod_bank.specs.Booked.{holding, new_book}
-use Rattle.mod_bank.specs.Given.{IsBounded, held_by as given_by}
+use Rattle.mod_bank.specs.{Booked.{holding, new_book}, Given.{IsBounded, held_by as given_by}}
 use Rattle.rule_machine.specs.GenesisConditions.{accounts_at_start}
 use Rattle.chain_whole.proofs.StartLemmas.{pair_of, HaveMoney, given_is_held, bounded, all_pairs}
 use Rattle.chain_whole.proofs.start.start_book.Goals as goal

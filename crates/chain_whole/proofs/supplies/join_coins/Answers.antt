@@ -1,5 +1,4 @@
-use Rattle.std.proofs.Common.{◌∙◌, sym, ap, arith}
-use Rattle.std.specs.Option.{option_map}
+use Rattle.std.proofs.Common.{◌∙◌, sym, ap, arith, option_map}
 use Rattle.chain_whole.proofs.SupplyLemmas.{some_at, joined_next, joined_over}
 use Rattle.chain_whole.proofs.supplies.join_coins.Goals as goal
 

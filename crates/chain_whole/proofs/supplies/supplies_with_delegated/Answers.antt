@@ -1,8 +1,7 @@
 use Rattle.std.proofs.Common.{◌∙◌, List, [], ap, subst}
 use Rattle.base_messages.specs.declared.genesis.GenesisAccount.{GenesisAccount}
 use Rattle.rule_machine.specs.Genesis.{supplies_with}
-use Rattle.chain_whole.specs.Supplies.{IsHigh}
-use Rattle.chain_whole.proofs.ConditionLemmas.{at_none, at_some}
+use Rattle.chain_whole.{specs.Supplies.IsHigh, proofs.ConditionLemmas.{at_none, at_some}}
 use Rattle.chain_whole.proofs.DelegatedLemmas.{high_accounts}
 use Rattle.chain_whole.proofs.supplies.supplies_with_delegated.Goals as goal
 

@@ -1,5 +1,4 @@
-use Rattle.law_rewards.proofs.Endings.{next_block_keeps_reached, end_keeps_reached}
-use Rattle.law_rewards.proofs.Payments.{withdrawal_keeps_reached}
+use Rattle.law_rewards.proofs.{Endings.{next_block_keeps_reached, end_keeps_reached}, Payments.withdrawal_keeps_reached}
 use Rattle.law_rewards.proofs.states.steps_keep_reached.Goals as goal
 
 pub returns-clause-next_block : goal.returns-clause-next_block

@@ -1,6 +1,5 @@
 use Rattle.std.proofs.Common.{refl}
-use Rattle.line_json.proofs.OnWritten.{written_on_literals}
-use Rattle.line_json.proofs.ReadingOnLiterals.{reading_on_literals}
+use Rattle.line_json.proofs.{OnWritten.written_on_literals, ReadingOnLiterals.reading_on_literals}
 use Rattle.line_json.proofs.SpelledOnLiterals.{spelled_on_literals}
 use Rattle.line_ballots.specs.Ballots.{ballot_of, ballot_of_tree, choice_of}
 use Rattle.line_ballots.proofs.worked.ballots_by_example.Goals as goal

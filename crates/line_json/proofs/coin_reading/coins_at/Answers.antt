@@ -1,7 +1,5 @@
 use Rattle.std.proofs.Common.{◌≡◌, sym, ◌∙◌, Ok, ap}
-use Rattle.line_json.specs.Nested.{list_at}
-use Rattle.line_json.specs.Coin.{coin_of}
-use Rattle.line_json.proofs.CoinLemmas.{coins_below}
+use Rattle.line_json.{specs.{Nested.list_at, Coin.coin_of}, proofs.CoinLemmas.coins_below}
 use Rattle.line_json.proofs.coin_reading.coins_at.Goals as goal
 
 pub of-requires : goal.of-requires

@@ -1,6 +1,5 @@
 use Rattle.std.proofs.Common.{◌≡◌, ◌++◌, sym, subst, OnOk}
-use Rattle.line_json.specs.Facts.{fact_data}
-use Rattle.line_json.specs.Line.{line_of}
+use Rattle.line_json.specs.{Facts.fact_data, Line.line_of}
 use Rattle.line_json.proofs.facts.push_fact.Goals as goal
 
 pub returns-in-Burn-clause-ok : goal.returns-in-Burn-clause-ok

@@ -1,10 +1,8 @@
 use Rattle.std.proofs.Common.{◌≡◌, ◌+◌, ◌<◌, ◌++◌, length, drop, refl, arith, append_assoc}
-use Rattle.line_json.specs.Line.{line_of}
-use Rattle.line_json.specs.Facts.{fact_data}
-use Rattle.line_json.specs.Written.{text_of_facts}
+use Rattle.line_json.specs.{Line.line_of, Facts.fact_data, Written.text_of_facts}
 use Rattle.line_json.proofs.ListLemmas.{drop_next, found_within}
-use Rattle.line_json.proofs.lines.push_facts.Goals as goal
 use Rattle.line_json.proofs.lines.push_facts.Goals.{in-Some+in_ok-push_fact, in_default}
+use Rattle.line_json.proofs.lines.push_facts.Goals as goal
 
 pub loop-place-preserved : goal.loop-place-preserved
 loop-place-preserved c =

@@ -1,6 +1,5 @@
 use Rattle.std.proofs.Common.{◌≡◌, ◌∙◌, sym, bytes_eq, true, Bor, List, [], ℕ}
-use Rattle.std.specs.List.{list_any}
-use Rattle.std.proofs.lemmas.List.Folds.{list_any_at}
+use Rattle.std.{specs.List.list_any, proofs.lemmas.List.Folds.list_any_at}
 use Rattle.line_json.proofs.ReadingLemmas.{list_any-map}
 use Rattle.line_json.proofs.names.is_expected.Goals as goal
 

@@ -1,8 +1,7 @@
 use Rattle.std.proofs.Common.{◌≡◌, ◌∙◌, ap, subst, true, false, ◌&&◌, option_map, arith}
 use Rattle.json.specs.Json as json
 use Rattle.json.specs.Find.{NextMember}
-use Rattle.line_json.specs.Members.{is_among, texts_of}
-use Rattle.line_json.specs.Tape.{keys_among}
+use Rattle.line_json.specs.{Members.{is_among, texts_of}, Tape.keys_among}
 use Rattle.line_json.proofs.place.all_named.Goals as goal
 
 pub returns-then-not-is_expected : goal.returns-then-not-is_expected

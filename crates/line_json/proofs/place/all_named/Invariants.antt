@@ -1,8 +1,7 @@
 use Rattle.std.proofs.Common.{◌≡◌, length}
 use Rattle.json.specs.Json as json
 use Rattle.json.specs.Find.{InMembers}
-use Rattle.line_json.specs.Members.{texts_of}
-use Rattle.line_json.specs.Tape.{keys_among}
+use Rattle.line_json.specs.{Members.texts_of, Tape.keys_among}
 use Rattle.line_json.proofs.place.all_named.Given as goal
 
 abbrev pub invariant-loop-key : goal.invariant-loop-key

@@ -1,7 +1,5 @@
 use Rattle.std.proofs.Common.{◌≡◌, ◌∙◌, ap, sym, subst, true}
-use Rattle.line_json.specs.Reading.{Gives}
-use Rattle.line_json.specs.Tape.{is_plain, IsTree, tree_at}
-use Rattle.line_json.proofs.TapeLemmas.{plain_tape}
+use Rattle.line_json.{specs.{Reading.Gives, Tape.{is_plain, IsTree, tree_at}}, proofs.TapeLemmas.plain_tape}
 use Rattle.line_json.proofs.ReadingLemmas.{walked}
 use Rattle.line_json.proofs.reading.read_by_tape.Goals as goal
 

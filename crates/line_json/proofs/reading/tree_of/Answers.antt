@@ -1,5 +1,4 @@
-use Rattle.std.proofs.Common.{◌≡◌, Bool, false}
-use Rattle.std.specs.Bool.{IsTrue}
+use Rattle.std.proofs.Common.{◌≡◌, Bool, false, IsTrue}
 use Rattle.line_json.proofs.ReadingLemmas.{tree_found, tree_absent}
 use Rattle.line_json.proofs.reading.tree_of.Goals as goal
 

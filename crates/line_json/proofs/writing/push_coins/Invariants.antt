@@ -1,6 +1,5 @@
 use Rattle.std.proofs.Common.{◌≡◌, ◌++◌, drop}
-use Rattle.line_json.specs.Told.{data_tokens}
-use Rattle.line_json.specs.Values.{coin_data, coins_data, whole_data}
+use Rattle.line_json.specs.{Told.data_tokens, Values.{coin_data, coins_data, whole_data}}
 use Rattle.line_json.proofs.WritingLemmas.{values_tokens}
 use Rattle.line_json.proofs.writing.push_coins.Given as goal
 

@@ -1,9 +1,8 @@
 use Rattle.std.proofs.Common.{◌∙◌, ◌<◌, length, arith}
-use Rattle.line_json.specs.Values.{coin_data, decimal_data}
-use Rattle.line_json.proofs.ListLemmas.{found_within}
+use Rattle.line_json.{specs.Values.{coin_data, decimal_data}, proofs.ListLemmas.found_within}
 use Rattle.line_json.proofs.WritingLemmas.{element_written}
-use Rattle.line_json.proofs.writing.push_dec_coins.Goals as goal
 use Rattle.line_json.proofs.writing.push_dec_coins.Goals.{in-Some+in_ok-push_dec_coin, in_default}
+use Rattle.line_json.proofs.writing.push_dec_coins.Goals as goal
 
 pub loop-place-preserved : goal.loop-place-preserved
 loop-place-preserved c =

@@ -1,6 +1,5 @@
 use Rattle.std.proofs.Common.{◌≡◌, ◌++◌, drop}
-use Rattle.line_json.specs.Told.{data_tokens}
-use Rattle.line_json.specs.Values.{coin_data, dec_coins_data, decimal_data}
+use Rattle.line_json.specs.{Told.data_tokens, Values.{coin_data, dec_coins_data, decimal_data}}
 use Rattle.line_json.proofs.WritingLemmas.{values_tokens}
 use Rattle.line_json.proofs.writing.push_dec_coins.Given as goal
 

@@ -1,5 +1,4 @@
-use Rattle.std.proofs.Common.{◌≡◌, take}
-use Rattle.std.specs.Str.{IsUtf8}
+use Rattle.std.proofs.Common.{◌≡◌, take, IsUtf8}
 use Rattle.base_decimals.specs.Texts.{dec_text}
 use Rattle.line_json.proofs.TextLemmas.{dec_text_is_utf8, front_of, read_as_text}
 use Rattle.line_json.proofs.writing.push_decimal.Goals as goal

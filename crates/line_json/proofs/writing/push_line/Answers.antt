@@ -1,8 +1,7 @@
 use Rattle.std.proofs.Common.{◌≡◌, ◌∙◌, ap, [], ◌∷◌, ◌++◌}
 use Rattle.json.specs.Print.{print}
 use Rattle.serde_json.specs.Data.{object}
-use Rattle.line_json.specs.Told.{data_tokens, listed}
-use Rattle.line_json.proofs.WritingLemmas.{line_written}
+use Rattle.line_json.{specs.Told.{data_tokens, listed}, proofs.WritingLemmas.line_written}
 use Rattle.line_json.proofs.writing.push_line.Goals as goal
 
 pub returns-clause-ok : goal.returns-clause-ok

@@ -1,7 +1,6 @@
 use Rattle.std.proofs.Common.{◌≡◌, ◌++◌, drop}
 use Rattle.serde_json.specs.Data.{object}
-use Rattle.line_json.specs.Told.{data_tokens, listed}
-use Rattle.line_json.proofs.WritingLemmas.{rest_tokens}
+use Rattle.line_json.{specs.Told.{data_tokens, listed}, proofs.WritingLemmas.rest_tokens}
 use Rattle.line_json.proofs.writing.push_object.Given as goal
 
 abbrev pub invariant-loop-name : goal.invariant-loop-name

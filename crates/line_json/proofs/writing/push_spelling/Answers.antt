@@ -1,8 +1,6 @@
-use Rattle.std.proofs.Common.{◌≡◌, ◌∙◌, sym, take}
-use Rattle.std.specs.Str.{IsUtf8}
+use Rattle.std.proofs.Common.{◌≡◌, ◌∙◌, sym, take, IsUtf8}
 use Rattle.std.proofs.lemmas.Str.{IsUtf8-from_ascii}
-use Rattle.base_bech32.specs.Spelling.{spelling_of}
-use Rattle.base_bech32.proofs.SpellingLemmas.{length-spelling_of, spelling_is_ascii}
+use Rattle.base_bech32.{specs.Spelling.spelling_of, proofs.SpellingLemmas.{length-spelling_of, spelling_is_ascii}}
 use Rattle.line_json.proofs.TextLemmas.{front_of, read_as_text}
 use Rattle.line_json.proofs.writing.push_spelling.Goals as goal
 

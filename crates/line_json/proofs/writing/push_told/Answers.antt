@@ -1,6 +1,5 @@
 use Rattle.std.proofs.Common.{◌∙◌, ◌++◌, sym, ap}
-use Rattle.line_json.specs.Told.{data_tokens, told_data}
-use Rattle.line_json.specs.Values.{operator_data}
+use Rattle.line_json.specs.{Told.{data_tokens, told_data}, Values.operator_data}
 use Rattle.line_json.proofs.writing.push_told.Goals as goal
 
 pub returns-in_ok-push_address-in-Operator-clause-ok : goal.returns-in_ok-push_address-in-Operator-clause-ok

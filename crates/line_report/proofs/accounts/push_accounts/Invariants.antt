@@ -1,8 +1,6 @@
-use Rattle.std.proofs.Common.{◌≡◌, ◌++◌, map}
-use Rattle.std.specs.Prelude.{option_map}
+use Rattle.std.proofs.Common.{◌≡◌, ◌++◌, map, option_map}
 use Rattle.rule_machine.specs.Report.{accounts_in}
-use Rattle.line_report.specs.Groups.{opened}
-use Rattle.line_report.specs.Lines.{account_line, text_of}
+use Rattle.line_report.specs.{Groups.opened, Lines.{account_line, text_of}}
 use Rattle.line_json.specs.Told.{coins_seen}
 use Rattle.line_report.proofs.accounts.push_accounts.Given as goal
 

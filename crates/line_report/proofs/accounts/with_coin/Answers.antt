@@ -1,14 +1,11 @@
-use Rattle.std.proofs.Common.{◌≡◌, ◌∙◌, ◌++◌, ◌∷◌, [], ℕ, List, true, false, sym, ap}
-use Rattle.std.specs.Prelude.{option_map}
+use Rattle.std.proofs.Common.{◌≡◌, ◌∙◌, ◌++◌, ◌∷◌, [], ℕ, List, true, false, sym, ap, option_map}
 use Rattle.std.proofs.lemmas.List.{map-append}
-use Rattle.line_json.specs.Line.{line_of}
+use Rattle.line_json.specs.{Line.line_of, Told.coins_seen}
 use Rattle.rule_machine.specs.Report.{is_same_account}
-use Rattle.line_report.specs.Lines.{account_line}
-use Rattle.line_json.specs.Told.{coins_seen}
-use Rattle.line_report.proofs.AccountLemmas.{first_gathered, other_gathered, same_gathered}
+use Rattle.line_report.{specs.Lines.account_line, proofs.AccountLemmas.{first_gathered, other_gathered, same_gathered}}
+use Rattle.line_report.proofs.accounts.with_coin.Goals.{in-Some+else-eq+in_ok-push_account, in_default}
 use Rattle.base_types.proofs.OrderLemmas.{account_equal, account_equal_at}
 use Rattle.line_report.proofs.accounts.with_coin.Goals as goal
-use Rattle.line_report.proofs.accounts.with_coin.Goals.{in-Some+else-eq+in_ok-push_account, in_default}
 
 pub returns-then-eq-clause-next : goal.returns-then-eq-clause-next
 returns-then-eq-clause-next c = λ rest.

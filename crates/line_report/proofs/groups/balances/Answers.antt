@@ -1,10 +1,8 @@
 use Rattle.std.proofs.Common.{sym}
 use Rattle.base_roles.specs.Orders.{place_cmp}
-use Rattle.line_report.specs.Telling.{balance_in}
-use Rattle.line_report.proofs.KeyLemmas.{balance_put}
-use Rattle.line_report.proofs.OrderLemmas.{told_none, told_some}
-use Rattle.line_report.proofs.groups.balances.Goals as goal
+use Rattle.line_report.{specs.Telling.balance_in, proofs.{KeyLemmas.balance_put, OrderLemmas.{told_none, told_some}}}
 use Rattle.line_report.proofs.groups.balances.Goals.{in-Some+in_ok-put, in_default}
+use Rattle.line_report.proofs.groups.balances.Goals as goal
 
 pub loop-item-preserved : goal.loop-item-preserved
 loop-item-preserved c =

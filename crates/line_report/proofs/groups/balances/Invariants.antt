@@ -1,5 +1,4 @@
-use Rattle.std.proofs.Common.{◌≡◌, drop}
-use Rattle.std.specs.List.{filter_map}
+use Rattle.std.proofs.Common.{◌≡◌, drop, filter_map}
 use Rattle.base_roles.specs.Orders.{place_cmp}
 use Rattle.line_report.specs.Telling.{balance_in}
 use Rattle.rule_machine.specs.Orders.{entries_with, in_order}

@@ -1,9 +1,8 @@
 use Rattle.std.proofs.Common.{sym}
 use Rattle.base_roles.specs.Orders.{pair_cmp}
-use Rattle.line_report.specs.Telling.{delegation_in}
-use Rattle.line_report.proofs.OrderLemmas.{told_none, told_some}
-use Rattle.line_report.proofs.groups.delegations.Goals as goal
+use Rattle.line_report.{specs.Telling.delegation_in, proofs.OrderLemmas.{told_none, told_some}}
 use Rattle.line_report.proofs.groups.delegations.Goals.{in-Some+in_ok-put, in_default}
+use Rattle.line_report.proofs.groups.delegations.Goals as goal
 
 pub loop-item-preserved : goal.loop-item-preserved
 loop-item-preserved c =

@@ -1,9 +1,7 @@
-use Rattle.std.proofs.Common.{◌≡◌, drop}
-use Rattle.std.specs.List.{filter_map}
+use Rattle.std.proofs.Common.{◌≡◌, drop, filter_map}
 use Rattle.base_roles.specs.Orders.{pair_cmp}
-use Rattle.line_report.specs.Telling.{delegation_in}
+use Rattle.line_report.specs.{Telling.delegation_in, Groups.delegations_of}
 use Rattle.rule_machine.specs.Orders.{entries_with}
-use Rattle.line_report.specs.Groups.{delegations_of}
 use Rattle.line_report.proofs.groups.delegations.Given as goal
 
 abbrev pub invariant-loop-item : goal.invariant-loop-item

@@ -1,10 +1,8 @@
 use Rattle.std.proofs.Common.{sym}
 use Rattle.base_roles.specs.Orders.{pair_cmp}
-use Rattle.line_report.specs.Seen.{seen}
-use Rattle.line_report.specs.Telling.{pending_in}
-use Rattle.line_report.proofs.OrderLemmas.{told_lent, told_none}
-use Rattle.line_report.proofs.groups.pending_rewards.Goals as goal
+use Rattle.line_report.{specs.{Seen.seen, Telling.pending_in}, proofs.OrderLemmas.{told_lent, told_none}}
 use Rattle.line_report.proofs.groups.pending_rewards.Goals.{in-Some+in_ok-put, in_default}
+use Rattle.line_report.proofs.groups.pending_rewards.Goals as goal
 
 pub loop-reward-preserved : goal.loop-reward-preserved
 loop-reward-preserved c =

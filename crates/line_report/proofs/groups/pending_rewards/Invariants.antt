@@ -1,9 +1,7 @@
-use Rattle.std.proofs.Common.{◌≡◌, drop}
-use Rattle.std.specs.List.{filter_map}
+use Rattle.std.proofs.Common.{◌≡◌, drop, filter_map}
 use Rattle.base_roles.specs.Orders.{pair_cmp}
-use Rattle.line_report.specs.Telling.{pending_in}
+use Rattle.line_report.specs.{Telling.pending_in, Seen.seen}
 use Rattle.rule_machine.specs.Orders.{entries_with, in_order}
-use Rattle.line_report.specs.Seen.{seen}
 use Rattle.line_report.proofs.groups.pending_rewards.Given as goal
 
 abbrev pub invariant-loop-reward : goal.invariant-loop-reward

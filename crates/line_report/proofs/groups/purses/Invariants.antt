@@ -1,10 +1,7 @@
-use Rattle.std.proofs.Common.{◌≡◌, drop}
-use Rattle.std.specs.List.{filter_map}
+use Rattle.std.proofs.Common.{◌≡◌, drop, filter_map}
 use Rattle.base_types.specs.Orders.{addr_cmp}
-use Rattle.line_report.specs.Telling.{purse_in}
+use Rattle.line_report.specs.{Telling.purse_in, Seen.seen, Groups.purses_of}
 use Rattle.rule_machine.specs.Orders.{entries_with}
-use Rattle.line_report.specs.Seen.{seen}
-use Rattle.line_report.specs.Groups.{purses_of}
 use Rattle.line_report.proofs.groups.purses.Given as goal
 
 abbrev pub invariant-loop-item : goal.invariant-loop-item

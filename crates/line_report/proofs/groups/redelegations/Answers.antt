@@ -1,11 +1,9 @@
 use Rattle.std.proofs.Common.{sym}
 use Rattle.base_roles.specs.Orders.{triple_cmp}
-use Rattle.line_report.specs.Seen.{seen}
-use Rattle.line_report.specs.Telling.{redelegation_in}
-use Rattle.line_report.proofs.KeyLemmas.{triple_put}
+use Rattle.line_report.{specs.{Seen.seen, Telling.redelegation_in}, proofs.KeyLemmas.triple_put}
 use Rattle.line_report.proofs.OrderLemmas.{told_lent, told_none}
-use Rattle.line_report.proofs.groups.redelegations.Goals as goal
 use Rattle.line_report.proofs.groups.redelegations.Goals.{in-Some+in_ok-put, in_default}
+use Rattle.line_report.proofs.groups.redelegations.Goals as goal
 
 pub loop-item-preserved : goal.loop-item-preserved
 loop-item-preserved c =

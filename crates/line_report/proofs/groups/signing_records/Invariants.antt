@@ -1,9 +1,7 @@
-use Rattle.std.proofs.Common.{◌≡◌, drop}
-use Rattle.std.specs.List.{filter_map}
+use Rattle.std.proofs.Common.{◌≡◌, drop, filter_map}
 use Rattle.base_types.specs.Orders.{cons_cmp}
-use Rattle.line_report.specs.Telling.{signing_in}
+use Rattle.line_report.specs.{Telling.signing_in, Groups.signing_of}
 use Rattle.rule_machine.specs.Orders.{entries_with}
-use Rattle.line_report.specs.Groups.{signing_of}
 use Rattle.line_report.proofs.groups.signing_records.Given as goal
 
 abbrev pub invariant-loop-item : goal.invariant-loop-item

@@ -1,9 +1,8 @@
 use Rattle.std.proofs.Common.{sym}
 use Rattle.base_types.specs.Orders.{denom_cmp}
-use Rattle.line_report.specs.Telling.{supply_in}
-use Rattle.line_report.proofs.OrderLemmas.{told_none, told_some}
-use Rattle.line_report.proofs.groups.supplies.Goals as goal
+use Rattle.line_report.{specs.Telling.supply_in, proofs.OrderLemmas.{told_none, told_some}}
 use Rattle.line_report.proofs.groups.supplies.Goals.{in-Some+in_ok-put, in_default}
+use Rattle.line_report.proofs.groups.supplies.Goals as goal
 
 pub loop-item-preserved : goal.loop-item-preserved
 loop-item-preserved c =

@@ -1,9 +1,7 @@
-use Rattle.std.proofs.Common.{◌≡◌, drop}
-use Rattle.std.specs.List.{filter_map}
+use Rattle.std.proofs.Common.{◌≡◌, drop, filter_map}
 use Rattle.base_types.specs.Orders.{denom_cmp}
-use Rattle.line_report.specs.Telling.{supply_in}
+use Rattle.line_report.specs.{Telling.supply_in, Groups.supply_of}
 use Rattle.rule_machine.specs.Orders.{entries_with}
-use Rattle.line_report.specs.Groups.{supply_of}
 use Rattle.line_report.proofs.groups.supplies.Given as goal
 
 abbrev pub invariant-loop-item : goal.invariant-loop-item

@@ -1,10 +1,8 @@
 use Rattle.std.proofs.Common.{sym}
 use Rattle.base_types.specs.Orders.{addr_cmp}
-use Rattle.line_report.specs.Seen.{seen}
-use Rattle.line_report.specs.Telling.{validator_in}
-use Rattle.line_report.proofs.OrderLemmas.{told_lent, told_none}
-use Rattle.line_report.proofs.groups.validators.Goals as goal
+use Rattle.line_report.{specs.{Seen.seen, Telling.validator_in}, proofs.OrderLemmas.{told_lent, told_none}}
 use Rattle.line_report.proofs.groups.validators.Goals.{in-Some+in_ok-put, in_default}
+use Rattle.line_report.proofs.groups.validators.Goals as goal
 
 pub loop-item-preserved : goal.loop-item-preserved
 loop-item-preserved c =

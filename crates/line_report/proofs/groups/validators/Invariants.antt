@@ -1,9 +1,7 @@
-use Rattle.std.proofs.Common.{◌≡◌, drop}
-use Rattle.std.specs.List.{filter_map}
+use Rattle.std.proofs.Common.{◌≡◌, drop, filter_map}
 use Rattle.base_types.specs.Orders.{addr_cmp}
-use Rattle.line_report.specs.Telling.{validator_in}
+use Rattle.line_report.specs.{Telling.validator_in, Seen.seen}
 use Rattle.rule_machine.specs.Orders.{entries_with, in_order}
-use Rattle.line_report.specs.Seen.{seen}
 use Rattle.line_report.proofs.groups.validators.Given as goal
 
 abbrev pub invariant-loop-item : goal.invariant-loop-item

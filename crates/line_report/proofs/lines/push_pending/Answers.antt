@@ -1,6 +1,5 @@
 use Rattle.std.proofs.Common.{◌≡◌, ◌++◌, sym, subst, codes, OnOk}
-use Rattle.line_json.specs.Facts.{between}
-use Rattle.line_json.specs.Line.{line_of}
+use Rattle.line_json.specs.{Facts.between, Line.line_of}
 use Rattle.line_report.specs.Lines.{of_kind, reward_members}
 use Rattle.line_report.proofs.lines.push_pending.Goals as goal
 

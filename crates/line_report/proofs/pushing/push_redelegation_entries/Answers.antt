@@ -1,5 +1,4 @@
-use Rattle.line_report.specs.Lines.{redelegation_line}
-use Rattle.line_report.proofs.ReportLemmas.{line_pushed}
+use Rattle.line_report.{specs.Lines.redelegation_line, proofs.ReportLemmas.line_pushed}
 use Rattle.line_report.proofs.pushing.push_redelegation_entries.Goals as goal
 
 pub loop-entry-preserved : goal.loop-entry-preserved

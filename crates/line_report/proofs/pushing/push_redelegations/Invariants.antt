@@ -1,7 +1,5 @@
-use Rattle.std.proofs.Common.{◌≡◌, ◌++◌}
-use Rattle.std.specs.List.{flat_map}
-use Rattle.line_report.specs.Lines.{redelegation_lines, text_of}
-use Rattle.line_report.specs.Seen.{seen}
+use Rattle.std.proofs.Common.{◌≡◌, ◌++◌, flat_map}
+use Rattle.line_report.specs.{Lines.{redelegation_lines, text_of}, Seen.seen}
 use Rattle.line_report.proofs.pushing.push_redelegations.Given as goal
 
 abbrev pub invariant-loop-who : goal.invariant-loop-who

@@ -1,7 +1,6 @@
 use Rattle.std.proofs.Common.{◌≡◌, ◌++◌, map}
 use Rattle.std.specs.Map.{values_of}
-use Rattle.line_report.specs.Lines.{pending_line, text_of}
-use Rattle.line_report.specs.Seen.{seen}
+use Rattle.line_report.specs.{Lines.{pending_line, text_of}, Seen.seen}
 use Rattle.line_report.proofs.pushing.push_rewards.Given as goal
 
 abbrev pub invariant-loop-reward : goal.invariant-loop-reward

@@ -1,7 +1,5 @@
-use Rattle.std.proofs.Common.{◌≡◌, ◌++◌}
-use Rattle.std.specs.List.{flat_map}
-use Rattle.line_report.specs.Lines.{text_of, unbonding_lines}
-use Rattle.line_report.specs.Seen.{seen}
+use Rattle.std.proofs.Common.{◌≡◌, ◌++◌, flat_map}
+use Rattle.line_report.specs.{Lines.{text_of, unbonding_lines}, Seen.seen}
 use Rattle.line_report.proofs.pushing.push_unbondings.Given as goal
 
 abbrev pub invariant-loop-who : goal.invariant-loop-who

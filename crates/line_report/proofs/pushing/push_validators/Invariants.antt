@@ -1,7 +1,5 @@
 use Rattle.std.proofs.Common.{◌≡◌, ◌++◌, map}
-use Rattle.line_report.specs.Groups.{with_purses}
-use Rattle.line_report.specs.Lines.{text_of, validator_line}
-use Rattle.line_report.specs.Seen.{seen}
+use Rattle.line_report.specs.{Groups.with_purses, Lines.{text_of, validator_line}, Seen.seen}
 use Rattle.line_report.proofs.pushing.push_validators.Given as goal
 
 abbrev pub invariant-loop-operator : goal.invariant-loop-operator

@@ -1,10 +1,8 @@
 use Rattle.std.proofs.Common.{◌≡◌, ◌++◌, [], sym, subst, OnOk}
 use Rattle.line_json.specs.Line.{line_of}
 use Rattle.base_coins.specs.Coins.{Money}
-use Rattle.base_roles.specs.declared.entities.Purse.{Purse}
-use Rattle.base_roles.specs.Items.{no_purse}
-use Rattle.line_report.specs.Lines.{validator_line}
-use Rattle.line_report.proofs.OrderLemmas.{purse_found, purse_missing}
+use Rattle.base_roles.specs.{declared.entities.Purse.Purse, Items.no_purse}
+use Rattle.line_report.{specs.Lines.validator_line, proofs.OrderLemmas.{purse_found, purse_missing}}
 use Rattle.line_report.proofs.pushing.push_with_purse.Goals as goal
 
 pub returns-in-Some-clause-ok : goal.returns-in-Some-clause-ok

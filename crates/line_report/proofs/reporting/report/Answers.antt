@@ -1,5 +1,4 @@
-use Rattle.line_report.specs.Groups.{report_from}
-use Rattle.line_report.proofs.ReportLemmas.{in_turn}
+use Rattle.line_report.{specs.Groups.report_from, proofs.ReportLemmas.in_turn}
 use Rattle.line_report.proofs.reporting.report.Goals as goal
 
 pub returns-clause-text : goal.returns-clause-text

@@ -1,6 +1,5 @@
 use Rattle.std.proofs.Common.{refl}
-use Rattle.line_json.proofs.OnWritten.{written_on_literals}
-use Rattle.line_json.proofs.SpelledOnLiterals.{spelled_on_literals}
+use Rattle.line_json.proofs.{OnWritten.written_on_literals, SpelledOnLiterals.spelled_on_literals}
 use Rattle.line_report.proofs.worked.reports_by_example.Goals as goal
 
 pub returns-clause-run : goal.returns-clause-run

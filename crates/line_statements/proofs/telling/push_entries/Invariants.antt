@@ -1,6 +1,5 @@
 use Rattle.std.proofs.Common.{◌≡◌, ◌++◌, drop}
-use Rattle.line_json.specs.Told.{data_tokens}
-use Rattle.line_json.proofs.WritingLemmas.{values_tokens}
+use Rattle.line_json.{specs.Told.data_tokens, proofs.WritingLemmas.values_tokens}
 use Rattle.line_statements.specs.Entries.{entries_data, entry_data}
 use Rattle.line_statements.proofs.telling.push_entries.Given as goal
 

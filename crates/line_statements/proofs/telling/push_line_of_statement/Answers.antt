@@ -1,7 +1,6 @@
 use Rattle.std.proofs.Common.{◌≡◌, ◌∙◌, ap, [], ◌∷◌, ◌++◌}
 use Rattle.json.specs.Print.{print}
-use Rattle.line_json.specs.Told.{data_tokens}
-use Rattle.line_json.proofs.WritingLemmas.{line_written}
+use Rattle.line_json.{specs.Told.data_tokens, proofs.WritingLemmas.line_written}
 use Rattle.line_statements.specs.Statements.{statement_data}
 use Rattle.line_statements.proofs.telling.push_line_of_statement.Goals as goal
 

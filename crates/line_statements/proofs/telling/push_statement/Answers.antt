@@ -1,7 +1,6 @@
 use Rattle.std.proofs.Common.{◌≡◌, ◌∙◌, ap, ◌++◌}
 use Rattle.line_json.specs.Told.{data_tokens}
-use Rattle.line_statements.specs.Entries.{entries_data}
-use Rattle.line_statements.proofs.TellingLemmas.{object_told}
+use Rattle.line_statements.{specs.Entries.entries_data, proofs.TellingLemmas.object_told}
 use Rattle.line_statements.proofs.telling.push_statement.Goals as goal
 
 pub returns-clause-ok : goal.returns-clause-ok

@@ -1,6 +1,5 @@
 use Rattle.std.proofs.Common.{refl}
-use Rattle.line_json.proofs.OnWritten.{written_on_literals}
-use Rattle.line_json.proofs.ReadingOnLiterals.{reading_on_literals}
+use Rattle.line_json.proofs.{OnWritten.written_on_literals, ReadingOnLiterals.reading_on_literals}
 use Rattle.line_json.proofs.SpelledOnLiterals.{spelled_on_literals}
 use Rattle.line_statements.specs.Entries.{allocated_of, entry_of, kind_of, slashed_of, started_of}
 use Rattle.line_statements.specs.Statements.{statement_of, statement_of_tree}

@@ -1,5 +1,4 @@
-use Rattle.std.proofs.Common.{ℕ, List, Bor, Option, ap}
-use Rattle.std.specs.Prelude.{option_map}
+use Rattle.std.proofs.Common.{ℕ, List, Bor, Option, ap, option_map}
 use Rattle.base_types.specs.declared.account.Account.{Account}
 use Rattle.mod_bank.proofs.OrderLemmas.{coin_of_other, coin_of_own}
 use Rattle.mod_bank.proofs.walk.own_coin.Goals as goal

@@ -1,24 +1,13 @@
-use Rattle.std.proofs.Common.{◌≡◌, ◌∙◌, ◌==◌, true, false, [], ◌∷◌, ◌++◌, Some, None, refl, ap, sym, subst, arith}
-use Rattle.std.specs.Prelude.{Result, Ok, Err, OnOk, ⊤, option_map}
-use Rattle.std.specs.Option.{option_copied}
-use Rattle.std.proofs.lemmas.Bool.Decides.{nat_tests}
+use Rattle.std.proofs.Common.{◌≡◌, ◌∙◌, ◌==◌, true, false, [], ◌∷◌, ◌++◌, Some, None, refl, ap, sym, subst, arith, Result, Ok, Err, OnOk, option_map, option_copied}
+use Rattle.std.{specs.Prelude.⊤, proofs.lemmas.Bool.Decides.nat_tests}
 use Rattle.base_types.specs.declared.status.BondStatus.TheVariants.{Unbonded}
-use Rattle.base_roles.specs.declared.entities.Validator.{Validator}
+use Rattle.base_roles.specs.{declared.entities.Validator.Validator, Ground.seen, Hooks.Stand}
+use Rattle.base_roles.{specs.Staked.{validator_at, put_validator, lists_of}, proofs.HookLemmas.stand-noted}
 use Rattle.base_roles.specs.declared.facts.Fact.TheVariants as fact
-use Rattle.base_roles.specs.Ground.{seen}
-use Rattle.base_roles.specs.Hooks.{Stand}
-use Rattle.base_roles.specs.Staked.{validator_at, put_validator, lists_of}
-use Rattle.base_roles.proofs.HookLemmas.{stand-noted}
-use Rattle.rule_modules.proofs.SoundLemmas.{found_itself}
-use Rattle.rule_modules.specs.Answers.{Leaves}
-use Rattle.rule_modules.specs.BondedSet.{matured}
-use Rattle.mod_staking.specs.Calls.{with_if, behind_log}
-use Rattle.mod_staking.proofs.GroundLemmas.{keeps-noted, keeps_then}
-use Rattle.mod_staking.proofs.IndexLemmas.{keyed_found}
-use Rattle.mod_staking.proofs.ListLemmas.{lists-put}
-use Rattle.mod_bonded_set.specs.Sets.{is_due}
-use Rattle.mod_bonded_set.proofs.DueLemmas.{some_same}
-use Rattle.mod_bonded_set.proofs.JoinLemmas.{nothing_kept}
+use Rattle.rule_modules.{proofs.SoundLemmas.found_itself, specs.{Answers.Leaves, BondedSet.matured}}
+use Rattle.mod_staking.{specs.Calls.{with_if, behind_log}, proofs.GroundLemmas.{keeps-noted, keeps_then}}
+use Rattle.mod_staking.proofs.{IndexLemmas.keyed_found, ListLemmas.lists-put}
+use Rattle.mod_bonded_set.{specs.Sets.is_due, proofs.{DueLemmas.some_same, JoinLemmas.nothing_kept}}
 use Rattle.mod_bonded_set.proofs.MatureLemmas.{unbonded, unbonded_told, leaves-kept, leaves-removed}
 use Rattle.mod_bonded_set.proofs.StakeLemmas.{sound_keyed}
 use Rattle.mod_bonded_set.proofs.maturing.mature.Goals as goal

@@ -1,20 +1,12 @@
-use Rattle.std.proofs.Common.{◌≡◌, ◌∙◌, ◌+◌, [], drop, refl, ap, sym, subst, arith, rules}
-use Rattle.std.specs.Prelude.{Err, IfErr}
-use Rattle.std.proofs.lemmas.List.{drop_all}
-use Rattle.std.specs.Map.{values_of}
+use Rattle.std.proofs.Common.{◌≡◌, ◌∙◌, ◌+◌, [], drop, refl, ap, sym, subst, arith, rules, Err, IfErr}
+use Rattle.std.{proofs.lemmas.List.drop_all, specs.Map.values_of}
 use Rattle.base_roles.specs.declared.faults.HookFault.TheVariants as hook
-use Rattle.base_roles.specs.Ground.{seen}
-use Rattle.base_roles.specs.Flow.{each}
-use Rattle.rule_modules.specs.Answers.{Leaves}
-use Rattle.rule_modules.specs.BondedSet.{matured}
+use Rattle.base_roles.specs.{Ground.seen, Flow.each, Staked.validator_at}
+use Rattle.rule_modules.{specs.{Answers.Leaves, BondedSet.matured}, proofs.OperatorLemmas.values_own}
 use Rattle.mod_staking.specs.Calls.{behind_log}
-use Rattle.base_roles.specs.Staked.{validator_at}
-use Rattle.mod_bonded_set.specs.Sets.{is_due}
-use Rattle.mod_bonded_set.proofs.LoopLemmas.{next_of, undone-none, undone-then}
+use Rattle.mod_bonded_set.{specs.Sets.is_due, proofs.LoopLemmas.{next_of, undone-none, undone-then}}
 use Rattle.mod_bonded_set.proofs.MatureLemmas.{matured-first, matured-stopped, matured-all, next-due, matured-more, others-stand}
-use Rattle.mod_bonded_set.proofs.StakeLemmas.{sound_ascend, sound_keyed}
-use Rattle.rule_modules.proofs.OperatorLemmas.{values_own}
-use Rattle.mod_bonded_set.proofs.StandLemmas.{all_stand}
+use Rattle.mod_bonded_set.proofs.{StakeLemmas.{sound_ascend, sound_keyed}, StandLemmas.all_stand}
 use Rattle.mod_bonded_set.proofs.maturing.mature_all.Goals as goal
 
 pub loop-operator-init : goal.loop-operator-init

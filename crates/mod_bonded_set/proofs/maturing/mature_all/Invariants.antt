@@ -2,10 +2,8 @@ use Rattle.std.proofs.Common.{◌≡◌, ◌+◌, ◌*◌, ◌≤◌, length, dr
 use Rattle.std.specs.Map.{values_of}
 use Rattle.base_roles.specs.Ground.{seen, CanBeUndone}
 use Rattle.rule_modules.specs.Amounts.{count_where}
-use Rattle.mod_staking.specs.Registered.{behind}
-use Rattle.mod_staking.specs.Scenes.{IsHooked}
-use Rattle.mod_bonded_set.specs.Sets.{goes_at}
-use Rattle.mod_bonded_set.proofs.MatureLemmas.{AreMaturing}
+use Rattle.mod_staking.specs.{Registered.behind, Scenes.IsHooked}
+use Rattle.mod_bonded_set.{specs.Sets.goes_at, proofs.MatureLemmas.AreMaturing}
 use Rattle.mod_bonded_set.proofs.maturing.mature_all.Given as goal
 
 abbrev pub invariant-loop-operator : goal.invariant-loop-operator

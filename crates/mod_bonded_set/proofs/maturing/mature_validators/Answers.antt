@@ -1,7 +1,6 @@
 use Rattle.std.proofs.Common.{◌∙◌, length, ap, arith}
 use Rattle.std.specs.Map.{values_of}
-use Rattle.mod_bonded_set.specs.Sets.{is_due}
-use Rattle.mod_bonded_set.proofs.DueLemmas.{listed_count}
+use Rattle.mod_bonded_set.{specs.Sets.is_due, proofs.DueLemmas.listed_count}
 use Rattle.mod_bonded_set.proofs.maturing.mature_validators.Goals as goal
 
 pub returns-clause-cost : goal.returns-clause-cost

@@ -4,8 +4,7 @@ use Rattle.mod_staking.specs.Places.{time_cmp, maturing_place, in_order}
 use Rattle.base_records.proofs.WalkLemmas.{left_of}
 use Rattle.mod_bonded_set.specs.Sets.{due_in}
 use Rattle.mod_bonded_set.proofs.DueLemmas.{due-end, due-stop, due-next, due-shorter, due-steps, found_place, queue-ascend}
-use Rattle.mod_bonded_set.proofs.PassedLemmas.{some_mapped, none_mapped}
-use Rattle.mod_bonded_set.proofs.StakeLemmas.{sound_ascend, sound_keyed}
+use Rattle.mod_bonded_set.proofs.{PassedLemmas.{some_mapped, none_mapped}, StakeLemmas.{sound_ascend, sound_keyed}}
 use Rattle.mod_bonded_set.proofs.maturing.queued.Goals as goal
 
 pub loop-v-preserved : goal.loop-v-preserved

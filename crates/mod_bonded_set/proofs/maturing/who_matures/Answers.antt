@@ -1,7 +1,5 @@
-use Rattle.std.proofs.Common.{subst}
-use Rattle.std.specs.List.Sorted.{IsPermutation}
-use Rattle.mod_bonded_set.proofs.DueLemmas.{due-sorted}
-use Rattle.mod_bonded_set.proofs.StakeLemmas.{sound_ascend, sound_keyed}
+use Rattle.std.proofs.Common.{subst, IsPermutation}
+use Rattle.mod_bonded_set.proofs.{DueLemmas.due-sorted, StakeLemmas.{sound_ascend, sound_keyed}}
 use Rattle.mod_bonded_set.proofs.maturing.who_matures.Goals as goal
 
 pub returns-clause-due : goal.returns-clause-due

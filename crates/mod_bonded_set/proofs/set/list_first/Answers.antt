@@ -1,9 +1,7 @@
-use Rattle.std.proofs.Common.{◌≡◌, ◌∙◌, ◌≤◌, None, ap, sym, subst, arith}
-use Rattle.std.specs.Prelude.{option_map}
+use Rattle.std.proofs.Common.{◌≡◌, ◌∙◌, ◌≤◌, None, ap, sym, subst, arith, option_map}
 use Rattle.base_table.specs.Tabled.{entry_above}
 use Rattle.mod_staking.specs.Places.{standing, standing_cmp, power_place, in_order}
-use Rattle.mod_bonded_set.proofs.SetLemmas.{by_place}
-use Rattle.mod_bonded_set.proofs.StakeLemmas.{sound_ascend, sound_keyed, sound_tokens}
+use Rattle.mod_bonded_set.proofs.{SetLemmas.by_place, StakeLemmas.{sound_ascend, sound_keyed, sound_tokens}}
 use Rattle.mod_bonded_set.proofs.PassedLemmas.{Passed, passed-first, passed-step, passed-over, passed-joining, passed-set, by_power_found}
 use Rattle.mod_bonded_set.proofs.set.list_first.Goals as goal
 

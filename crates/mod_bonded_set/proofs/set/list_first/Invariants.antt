@@ -1,8 +1,6 @@
-use Rattle.std.proofs.Common.{◌+◌, ◌*◌, ◌≤◌}
-use Rattle.std.specs.Prelude.{option_map}
+use Rattle.std.proofs.Common.{◌+◌, ◌*◌, ◌≤◌, option_map}
 use Rattle.mod_staking.specs.Places.{standing}
-use Rattle.mod_bonded_set.proofs.SetLemmas.{by_place}
-use Rattle.mod_bonded_set.proofs.PassedLemmas.{Passed}
+use Rattle.mod_bonded_set.proofs.{SetLemmas.by_place, PassedLemmas.Passed}
 use Rattle.mod_bonded_set.proofs.set.list_first.Given as goal
 
 abbrev pub invariant-loop-passed : goal.invariant-loop-passed

@@ -1,14 +1,10 @@
-use Rattle.std.proofs.Common.{◌≡◌, ◌∙◌, ◌+◌, ◌≤◌, [], length, drop, refl, ap, sym, subst, arith, rules}
-use Rattle.std.specs.Prelude.{Err, IfErr}
+use Rattle.std.proofs.Common.{◌≡◌, ◌∙◌, ◌+◌, ◌≤◌, [], length, drop, refl, ap, sym, subst, arith, rules, Err, IfErr}
 use Rattle.std.proofs.lemmas.List.{drop_all}
 use Rattle.base_roles.specs.declared.faults.HookFault.TheVariants as hook
-use Rattle.base_roles.specs.Ground.{seen}
-use Rattle.base_roles.specs.Flow.{each}
-use Rattle.rule_modules.specs.Answers.{Leaves}
-use Rattle.rule_modules.specs.BondedSet.{HaveOwnOperators, joined_set}
+use Rattle.base_roles.specs.{Ground.seen, Flow.each}
+use Rattle.rule_modules.specs.{Answers.Leaves, BondedSet.{HaveOwnOperators, joined_set}}
 use Rattle.mod_staking.specs.Calls.{behind_log}
-use Rattle.mod_bonded_set.specs.Sets.{AllStand, all_joined}
-use Rattle.mod_bonded_set.proofs.JoinLemmas.{in_set}
+use Rattle.mod_bonded_set.{specs.Sets.{AllStand, all_joined}, proofs.JoinLemmas.in_set}
 use Rattle.mod_bonded_set.proofs.JoinedLemmas.{HasJoined, joined-first, joined-more, joined-stopped, joined-all}
 use Rattle.mod_bonded_set.proofs.LoopLemmas.{next_of, undone-none, undone-then, cost_more, cost_within}
 use Rattle.mod_bonded_set.proofs.TokenLemmas.{still_stand}

@@ -1,11 +1,8 @@
 use Rattle.std.proofs.Common.{◌≡◌, ◌+◌, ◌*◌, ◌≤◌, length, drop}
-use Rattle.base_roles.specs.Ground.{seen, CanBeUndone}
-use Rattle.base_roles.specs.Log.{Log}
-use Rattle.mod_staking.specs.Registered.{behind}
-use Rattle.mod_staking.specs.Scenes.{IsHooked}
+use Rattle.base_roles.specs.{Ground.{seen, CanBeUndone}, Log.Log}
+use Rattle.mod_staking.specs.{Registered.behind, Scenes.IsHooked}
 use Rattle.rule_modules.specs.BondedSet.{HaveOwnOperators}
-use Rattle.mod_bonded_set.specs.Sets.{AllStand, all_joined}
-use Rattle.mod_bonded_set.proofs.JoinedLemmas.{HasJoined}
+use Rattle.mod_bonded_set.{specs.Sets.{AllStand, all_joined}, proofs.JoinedLemmas.HasJoined}
 use Rattle.mod_bonded_set.proofs.updating.join_all.Given as goal
 
 abbrev pub invariant-loop-v : goal.invariant-loop-v

@@ -1,14 +1,10 @@
 use Rattle.std.proofs.Common.{◌≡◌, ◌∙◌, ◌+◌, drop, refl, ap, sym, subst, arith}
 use Rattle.std.proofs.lemmas.List.{drop_all}
 use Rattle.base_types.specs.declared.status.BondStatus.TheVariants.{Unbonding}
-use Rattle.base_roles.specs.declared.entities.Validator.{Validator}
-use Rattle.base_roles.specs.Ground.{seen, IsInOrder}
-use Rattle.base_roles.specs.Staked.{put_validator}
-use Rattle.rule_modules.specs.Unbondings.{completion}
-use Rattle.rule_modules.specs.BondedSet.{HaveOwnOperators}
+use Rattle.base_roles.specs.{declared.entities.Validator.Validator, Ground.{seen, IsInOrder}, Staked.put_validator}
+use Rattle.rule_modules.specs.{Unbondings.completion, BondedSet.HaveOwnOperators}
 use Rattle.mod_bonded_set.specs.Sets.{AllStand, all_left, all_leavings_noted}
-use Rattle.mod_bonded_set.proofs.LoopLemmas.{next_of, undone-none, undone-then}
-use Rattle.mod_bonded_set.proofs.TokenLemmas.{still_stand}
+use Rattle.mod_bonded_set.proofs.{LoopLemmas.{next_of, undone-none, undone-then}, TokenLemmas.still_stand}
 use Rattle.mod_bonded_set.proofs.updating.leave_all.Goals as goal
 
 pub loop-v-init : goal.loop-v-init

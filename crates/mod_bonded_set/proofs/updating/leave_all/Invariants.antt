@@ -1,9 +1,7 @@
 use Rattle.std.proofs.Common.{◌≡◌, ◌+◌, ◌*◌, ◌≤◌, length, drop}
 use Rattle.base_roles.specs.Ground.{seen, CanBeUndone, IsInOrder}
-use Rattle.rule_modules.specs.Unbondings.{completion}
-use Rattle.mod_staking.specs.Calls.{IsSoundStake}
-use Rattle.mod_staking.specs.Registered.{behind}
-use Rattle.rule_modules.specs.BondedSet.{HaveOwnOperators}
+use Rattle.rule_modules.specs.{Unbondings.completion, BondedSet.HaveOwnOperators}
+use Rattle.mod_staking.specs.{Calls.IsSoundStake, Registered.behind}
 use Rattle.mod_bonded_set.specs.Sets.{AllStand, all_left, all_leavings_noted}
 use Rattle.mod_bonded_set.proofs.updating.leave_all.Given as goal
 

@@ -1,10 +1,8 @@
 use Rattle.std.proofs.Common.{◌∙◌, ◌+◌, ◌^◌, ◌≤◌, drop, ap, subst, arith}
-use Rattle.std.specs.List.{AllByRecursion}
-use Rattle.std.proofs.lemmas.List.{drop_all}
+use Rattle.std.{specs.List.AllByRecursion, proofs.lemmas.List.drop_all}
 use Rattle.rule_modules.specs.BondedSet.{tokens_of}
 use Rattle.base_roles.specs.declared.entities.Validator.{Validator}
-use Rattle.mod_bonded_set.proofs.LoopLemmas.{next_of}
-use Rattle.mod_bonded_set.proofs.TokenLemmas.{total}
+use Rattle.mod_bonded_set.proofs.{LoopLemmas.next_of, TokenLemmas.total}
 use Rattle.mod_bonded_set.proofs.updating.tokens_of.Goals as goal
 
 pub overflow_add-total : goal.overflow_add-total

@@ -1,23 +1,16 @@
-use Rattle.std.proofs.Common.{◌≡◌, ◌∙◌, ℕ, ◌^◌, ◌≤◌, None, length, ap, sym, subst, arith, rules}
-use Rattle.std.specs.Prelude.{◌-◌, Ok, Err, IfErr}
-use Rattle.std.specs.List.{AllByRecursion}
-use Rattle.std.specs.Map.{values_of}
+use Rattle.std.proofs.Common.{◌≡◌, ◌∙◌, ℕ, ◌^◌, ◌≤◌, None, length, ap, sym, subst, arith, rules, ◌-◌, Ok, Err, IfErr}
+use Rattle.std.specs.{List.AllByRecursion, Map.values_of}
 use Rattle.base_types.specs.declared.account.Account.TheVariants as account
 use Rattle.base_types.specs.declared.account.Module.TheVariants as holder
-use Rattle.base_roles.specs.declared.entities.Validator.{Validator}
-use Rattle.base_roles.specs.Ground.{seen}
-use Rattle.base_roles.specs.declared.faults.HookFault.TheVariants as hook
-use Rattle.base_roles.specs.Holdings.{balance_of}
-use Rattle.base_roles.specs.Staked.{is_bonded}
+use Rattle.base_roles.specs.{declared.entities.Validator.Validator, Ground.seen, Holdings.balance_of, Staked.is_bonded}
 use Rattle.base_roles.specs.Flow.{each}
-use Rattle.rule_modules.specs.Amounts.{count_where}
-use Rattle.rule_modules.specs.Answers.{Leaves}
+use Rattle.base_roles.specs.declared.faults.HookFault.TheVariants as hook
+use Rattle.rule_modules.specs.{Amounts.count_where, Answers.Leaves}
 use Rattle.rule_modules.specs.BondedSet.{HaveOwnOperators, joined_set, set_updated, tokens_of, difference_moved}
 use Rattle.rule_modules.specs.Unbondings.{completion}
 use Rattle.mod_staking.specs.Calls.{behind_log}
 use Rattle.mod_bonded_set.specs.Sets.{AllStand, all_joined, all_left, all_leavings_noted}
-use Rattle.mod_bonded_set.proofs.JoinedLemmas.{memory_wanting}
-use Rattle.mod_bonded_set.proofs.LoopLemmas.{turns_within, undone-none, undone-then}
+use Rattle.mod_bonded_set.proofs.{JoinedLemmas.memory_wanting, LoopLemmas.{turns_within, undone-none, undone-then}}
 use Rattle.mod_bonded_set.proofs.PassedLemmas.{joining-few, leaving-few}
 use Rattle.mod_bonded_set.proofs.SceneLemmas.{leaving-stand-now, backed2, enough-to_bonded, enough-from_bonded, accounts3, stand3}
 use Rattle.mod_bonded_set.proofs.StandLemmas.{joining-stand, joining-apart, joining-all, leaving-apart, leaving-all}

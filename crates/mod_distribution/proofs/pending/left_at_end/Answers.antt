@@ -1,5 +1,4 @@
-use Rattle.std.proofs.Common.{◌≡◌, sym, subst}
-use Rattle.std.specs.Prelude.{None}
+use Rattle.std.proofs.Common.{◌≡◌, sym, subst, None}
 use Rattle.base_coins.specs.Coins.{first_short}
 use Rattle.mod_allocation.proofs.CoinLemmas.{smaller_enough}
 use Rattle.mod_distribution.proofs.pending.left_at_end.Goals as goal

@@ -1,12 +1,7 @@
-use Rattle.std.proofs.Common.{◌≡◌, ◌∙◌, Some, ap, sym, subst}
-use Rattle.std.specs.Prelude.{if◌then◌else◌}
-use Rattle.base_types.specs.Orders.{addr_cmp, moment_cmp}
-use Rattle.base_types.proofs.MapLemmas.{at-put}
+use Rattle.std.proofs.Common.{◌≡◌, ◌∙◌, Some, ap, sym, subst, if◌then◌else◌}
+use Rattle.base_types.{specs.Orders.{addr_cmp, moment_cmp}, proofs.MapLemmas.at-put}
 use Rattle.base_roles.specs.Entries.{with}
-use Rattle.mod_entries.specs.Lists.{list_at}
-use Rattle.mod_entries.specs.Queue.{earliest, IsQueue}
-use Rattle.mod_entries.specs.Sources.{AreSourced}
-use Rattle.mod_entries.specs.Ways.{queued, unqueued}
+use Rattle.mod_entries.specs.{Lists.list_at, Queue.{earliest, IsQueue}, Sources.AreSourced, Ways.{queued, unqueued}}
 use Rattle.mod_entries.proofs.WayLemmas.{queue-changed, sources-put}
 use Rattle.mod_entries.proofs.changing.put_both.Goals as goal
 

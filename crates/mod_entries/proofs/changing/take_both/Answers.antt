@@ -1,12 +1,7 @@
-use Rattle.std.proofs.Common.{◌≡◌, ◌∙◌, Some, None, ap, sym, subst}
-use Rattle.std.specs.Prelude.{if◌then◌else◌}
-use Rattle.base_types.specs.Orders.{addr_cmp, moment_cmp}
-use Rattle.base_types.proofs.MapLemmas.{at-taken}
+use Rattle.std.proofs.Common.{◌≡◌, ◌∙◌, Some, None, ap, sym, subst, if◌then◌else◌}
+use Rattle.base_types.{specs.Orders.{addr_cmp, moment_cmp}, proofs.MapLemmas.at-taken}
 use Rattle.base_roles.specs.Entries.{without}
-use Rattle.mod_entries.specs.Lists.{list_at}
-use Rattle.mod_entries.specs.Queue.{earliest, IsQueue}
-use Rattle.mod_entries.specs.Sources.{AreSourced}
-use Rattle.mod_entries.specs.Ways.{unqueued}
+use Rattle.mod_entries.specs.{Lists.list_at, Queue.{earliest, IsQueue}, Sources.AreSourced, Ways.unqueued}
 use Rattle.mod_entries.proofs.WayLemmas.{queue-changed, sources-taken}
 use Rattle.mod_entries.proofs.changing.take_both.Goals as goal
 

@@ -1,5 +1,4 @@
-use Rattle.std.proofs.Common.{subst, arith}
-use Rattle.std.specs.List.Sorted.{IsPermutation}
+use Rattle.std.proofs.Common.{subst, arith, IsPermutation}
 use Rattle.mod_entries.proofs.DueLemmas.{due-sorted, due-no_more}
 use Rattle.mod_entries.proofs.due.due.Goals as goal
 

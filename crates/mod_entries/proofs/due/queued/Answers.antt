@@ -1,10 +1,7 @@
-use Rattle.std.proofs.Common.{◌≡◌, ◌∙◌, ◌+◌, ◌≤◌, Some, length, sym, ap, arith}
-use Rattle.std.specs.Prelude.{is_some}
+use Rattle.std.proofs.Common.{◌≡◌, ◌∙◌, ◌+◌, ◌≤◌, Some, length, sym, ap, arith, is_some}
 use Rattle.std.proofs.lemmas.List.{length_push}
 use Rattle.base_table.specs.Tabled.{entry_above}
-use Rattle.mod_entries.specs.Queue.{completion_cmp}
-use Rattle.mod_entries.proofs.CountLemmas.{one_step}
-use Rattle.mod_entries.proofs.DueLemmas.{due-next, due-shorter}
+use Rattle.mod_entries.{specs.Queue.completion_cmp, proofs.{CountLemmas.one_step, DueLemmas.{due-next, due-shorter}}}
 use Rattle.mod_entries.proofs.due.queued.Goals as goal
 
 pub loop-place-preserved : goal.loop-place-preserved

@@ -1,9 +1,7 @@
-use Rattle.std.proofs.Common.{◌≡◌, ◌∙◌, ◌+◌, Some, length, ap}
-use Rattle.std.specs.Prelude.{option_map}
+use Rattle.std.proofs.Common.{◌≡◌, ◌∙◌, ◌+◌, Some, length, ap, option_map}
 use Rattle.std.specs.Map.{keys_of}
 use Rattle.base_table.specs.Tabled.{entry_above}
-use Rattle.mod_entries.specs.Sources.{from_operator}
-use Rattle.mod_entries.proofs.CountLemmas.{keys-end, keys-next, where-shorter, walk-cost}
+use Rattle.mod_entries.{specs.Sources.from_operator, proofs.CountLemmas.{keys-end, keys-next, where-shorter, walk-cost}}
 use Rattle.mod_entries.proofs.SourceLemmas.{next-is, no_entry, own-ascends}
 use Rattle.mod_entries.proofs.sources.keys_from.Goals as goal
 

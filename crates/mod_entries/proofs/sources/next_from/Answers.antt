@@ -1,11 +1,8 @@
-use Rattle.std.proofs.Common.{◌∙◌, ap, sym}
-use Rattle.std.specs.Option.{option_copied}
-use Rattle.std.specs.Prelude.{option_map}
+use Rattle.std.proofs.Common.{◌∙◌, ap, sym, option_copied, option_map}
 use Rattle.base_types.specs.Orders.{addr_cmp}
 use Rattle.base_table.specs.Tabled.{entry_above, entry_from}
 use Rattle.base_roles.specs.Orders.{both_cmp}
-use Rattle.mod_entries.specs.Sources.{from_operator, own_key}
-use Rattle.mod_entries.proofs.SourceLemmas.{own-begins, own-goes_on}
+use Rattle.mod_entries.{specs.Sources.{from_operator, own_key}, proofs.SourceLemmas.{own-begins, own-goes_on}}
 use Rattle.mod_entries.proofs.sources.next_from.Goals as goal
 
 pub returns-in-None-clause-key : goal.returns-in-None-clause-key

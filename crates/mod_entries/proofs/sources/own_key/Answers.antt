@@ -1,5 +1,4 @@
-use Rattle.std.proofs.Common.{◌∙◌, Some, None, cond, sym, ap}
-use Rattle.std.specs.Prelude.{option_map}
+use Rattle.std.proofs.Common.{◌∙◌, Some, None, cond, sym, ap, option_map}
 use Rattle.mod_entries.specs.Sources.{own_key}
 use Rattle.mod_entries.proofs.sources.own_key.Goals as goal
 

@@ -1,7 +1,5 @@
-use Rattle.std.proofs.Common.{◌≡◌, ap, sym, subst, ◌∙◌, true, false, Bool, Some, None}
-use Rattle.std.specs.Prelude.{not, refl, unwrap_or, is_some}
-use Rattle.std.specs.BTreeMap.Range.{range_contains}
-use Rattle.std.specs.declared.ops.Bound.TheVariants.{Included, Unbounded}
+use Rattle.std.proofs.Common.{◌≡◌, ap, sym, subst, ◌∙◌, true, false, Bool, Some, None, not, refl, unwrap_or, is_some}
+use Rattle.std.specs.{BTreeMap.Range.range_contains, declared.ops.Bound.TheVariants.{Included, Unbounded}}
 use Rattle.std.proofs.lemmas.Map.Text.{is_eq-slice_cmp}
 use Rattle.base_roles.specs.Orders.{same_addr}
 use Rattle.base_table.specs.Tabled.{entry_from, value_at}

@@ -1,6 +1,5 @@
 use Rattle.std.proofs.Common.{ap, ◌∙◌, arith, length}
-use Rattle.mod_periods.specs.Kept.{others}
-use Rattle.mod_periods.proofs.ClearLemmas.{removed-shorter, removed-others}
+use Rattle.mod_periods.{specs.Kept.others, proofs.ClearLemmas.{removed-shorter, removed-others}}
 use Rattle.mod_periods.proofs.clear.take_out.Goals as goal
 
 pub loop-key-smaller : goal.loop-key-smaller

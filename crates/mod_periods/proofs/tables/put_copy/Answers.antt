@@ -1,5 +1,4 @@
-use Rattle.std.proofs.Common.{◌≡◌, subst}
-use Rattle.std.specs.Prelude.{OnOk}
+use Rattle.std.proofs.Common.{◌≡◌, subst, OnOk}
 use Rattle.base_roles.specs.declared.entities.Historical.{Historical}
 use Rattle.base_table.specs.Tabled.{with_value}
 use Rattle.mod_periods.specs.Kept.{period_cmp}

@@ -1,5 +1,4 @@
-use Rattle.std.proofs.Common.{◌≡◌, subst}
-use Rattle.std.specs.Option.{option_copied}
+use Rattle.std.proofs.Common.{◌≡◌, subst, option_copied}
 use Rattle.base_roles.specs.Entries.{at}
 use Rattle.mod_redelegation.proofs.OrderLemmas.{triple_order_is}
 use Rattle.mod_redelegation.proofs.keyed.at.Goals as goal

@@ -1,6 +1,5 @@
 use Rattle.std.proofs.Common.{subst}
-use Rattle.std.specs.List.Sorted.{IsStrictlySortedBy}
-use Rattle.std.specs.Map.{keys_of}
+use Rattle.std.specs.{List.Sorted.IsStrictlySortedBy, Map.keys_of}
 use Rattle.mod_redelegation.proofs.OrderLemmas.{triple_order_is}
 use Rattle.mod_redelegation.proofs.keyed.known.Goals as goal
 

@@ -1,5 +1,4 @@
-use Rattle.std.proofs.Common.{◌≡◌, Some, subst}
-use Rattle.std.specs.Prelude.{option_map}
+use Rattle.std.proofs.Common.{◌≡◌, Some, subst, option_map}
 use Rattle.base_table.specs.Tabled.{entry_above}
 use Rattle.mod_redelegation.proofs.OrderLemmas.{triple_order_is}
 use Rattle.mod_redelegation.proofs.keyed.next.Goals as goal

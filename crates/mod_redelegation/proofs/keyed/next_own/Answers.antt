@@ -1,5 +1,4 @@
-use Rattle.std.proofs.Common.{◌≡◌, ◌∙◌, true, sym, ap}
-use Rattle.std.specs.Option.{option_copied}
+use Rattle.std.proofs.Common.{◌≡◌, ◌∙◌, true, sym, ap, option_copied}
 use Rattle.base_table.specs.Tabled.{entry_above, entry_from}
 use Rattle.base_roles.specs.Orders.{triple_cmp, same_addr}
 use Rattle.mod_redelegation.specs.Own.{own_entries, own_entry, is_own_or_none}

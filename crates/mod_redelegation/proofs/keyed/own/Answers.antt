@@ -1,8 +1,6 @@
-use Rattle.std.proofs.Common.{◌∙◌, List, Bor, Option, Some, None, cond, sym, ap}
-use Rattle.std.specs.Prelude.{option_map}
+use Rattle.std.proofs.Common.{◌∙◌, List, Bor, Option, Some, None, cond, sym, ap, option_map}
 use Rattle.base_roles.specs.declared.entities.RedelegationEntry.{RedelegationEntry}
-use Rattle.mod_redelegation.specs.Own.{own_entry}
-use Rattle.mod_redelegation.proofs.OrderLemmas.{Key}
+use Rattle.mod_redelegation.{specs.Own.own_entry, proofs.OrderLemmas.Key}
 use Rattle.mod_redelegation.proofs.keyed.own.Goals as goal
 
 pub returns-then-not-is_same : goal.returns-then-not-is_same

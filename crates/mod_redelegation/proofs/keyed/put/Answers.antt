@@ -1,5 +1,4 @@
-use Rattle.std.proofs.Common.{◌≡◌, subst}
-use Rattle.std.specs.Prelude.{OnOk}
+use Rattle.std.proofs.Common.{◌≡◌, subst, OnOk}
 use Rattle.base_roles.specs.Entries.{with}
 use Rattle.mod_entries.specs.Kept.{holding}
 use Rattle.mod_redelegation.proofs.OrderLemmas.{triple_order_is}

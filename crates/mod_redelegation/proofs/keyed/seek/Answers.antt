@@ -1,5 +1,4 @@
-use Rattle.std.proofs.Common.{◌≡◌, subst}
-use Rattle.std.specs.Prelude.{option_map}
+use Rattle.std.proofs.Common.{◌≡◌, subst, option_map}
 use Rattle.base_table.specs.Tabled.{entry_from}
 use Rattle.mod_redelegation.proofs.OrderLemmas.{triple_order_is}
 use Rattle.mod_redelegation.proofs.keyed.seek.Goals as goal

@@ -1,7 +1,5 @@
-use Rattle.std.proofs.Common.{◌≡◌, subst}
-use Rattle.std.specs.Prelude.{OnOk}
-use Rattle.mod_entries.specs.Kept.{holding}
-use Rattle.mod_entries.specs.Lists.{with_list}
+use Rattle.std.proofs.Common.{◌≡◌, subst, OnOk}
+use Rattle.mod_entries.specs.{Kept.holding, Lists.with_list}
 use Rattle.mod_redelegation.proofs.OrderLemmas.{triple_order_is}
 use Rattle.mod_redelegation.proofs.keyed.set.Goals as goal
 

@@ -1,5 +1,4 @@
-use Rattle.std.proofs.Common.{◌≡◌, subst}
-use Rattle.std.specs.Prelude.{IfOk}
+use Rattle.std.proofs.Common.{◌≡◌, subst, IfOk}
 use Rattle.rule_modules.specs.EntrySlashes.{redelegation_made}
 use Rattle.mod_entries.specs.Lists.{list_at, unmatured}
 use Rattle.mod_redelegation.proofs.OrderLemmas.{triple_order_is}

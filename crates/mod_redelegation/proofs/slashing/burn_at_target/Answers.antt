@@ -1,14 +1,8 @@
-use Rattle.std.proofs.Common.{◌≡◌, ◌∙◌, refl, sym, ap, subst}
-use Rattle.std.specs.Prelude.{Ok}
-use Rattle.base_roles.specs.Ground.{seen}
-use Rattle.base_roles.specs.Lent.{Unbonds}
-use Rattle.base_roles.specs.Staked.{validator_at}
-use Rattle.base_roles.specs.StakeChanges.{HasShares}
-use Rattle.rule_modules.specs.Answers.{Leaves}
-use Rattle.rule_modules.specs.EntrySlashes.{burned_at_target}
+use Rattle.std.proofs.Common.{◌≡◌, ◌∙◌, refl, sym, ap, subst, Ok}
+use Rattle.base_roles.specs.{Ground.seen, Lent.Unbonds, Staked.validator_at, StakeChanges.HasShares}
+use Rattle.rule_modules.specs.{Answers.Leaves, EntrySlashes.burned_at_target}
 use Rattle.mod_staking.specs.Calls.{behind_log}
-use Rattle.mod_redelegation.proofs.BurntLemmas.{slashed-none}
-use Rattle.mod_redelegation.proofs.GoesOnLemmas.{goes-none}
+use Rattle.mod_redelegation.proofs.{BurntLemmas.slashed-none, GoesOnLemmas.goes-none}
 use Rattle.mod_redelegation.proofs.TargetLemmas.{some_target, own_target, none_burned, some_burned}
 use Rattle.mod_redelegation.proofs.slashing.burn_at_target.Goals as goal
 

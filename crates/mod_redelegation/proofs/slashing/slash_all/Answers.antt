@@ -1,13 +1,9 @@
-use Rattle.std.proofs.Common.{◌≡◌, ◌+◌, drop, refl, sym, subst, rules}
-use Rattle.std.specs.Prelude.{Err}
-use Rattle.base_roles.specs.Ground.{seen}
-use Rattle.base_roles.specs.Lent.{Unbonds, Following}
+use Rattle.std.proofs.Common.{◌≡◌, ◌+◌, drop, refl, sym, subst, rules, Err}
+use Rattle.base_roles.specs.{Ground.seen, Lent.{Unbonds, Following}}
 use Rattle.rule_modules.specs.EntrySlashes.{targets_slashed}
 use Rattle.mod_staking.specs.Calls.{behind_log}
 use Rattle.mod_entries.proofs.CountLemmas.{next_of, drop_end}
-use Rattle.mod_redelegation.specs.Scenes.{LeavesBoth}
-use Rattle.mod_redelegation.specs.Slashed.{entry_slashed}
-use Rattle.mod_redelegation.proofs.BothLemmas.{both-none, both-then}
+use Rattle.mod_redelegation.{specs.{Scenes.LeavesBoth, Slashed.entry_slashed}, proofs.BothLemmas.{both-none, both-then}}
 use Rattle.mod_redelegation.proofs.GoesOnLemmas.{both_go-none, both_go-then}
 use Rattle.mod_redelegation.proofs.ReachedLemmas.{reached-first, reached-next, reached-err, reached-last, targets-next, targets-end}
 use Rattle.mod_redelegation.proofs.slashing.slash_all.Goals as goal

@@ -1,11 +1,8 @@
 use Rattle.std.proofs.Common.{drop}
-use Rattle.base_roles.specs.Ground.{seen}
-use Rattle.base_roles.specs.Lent.{Unbonds, Following}
-use Rattle.base_roles.specs.Log.{Log}
+use Rattle.base_roles.specs.{Ground.seen, Lent.{Unbonds, Following}, Log.Log}
 use Rattle.rule_modules.specs.EntrySlashes.{targets_slashed}
 use Rattle.mod_staking.specs.Calls.{behind_log}
-use Rattle.mod_redelegation.specs.Scenes.{IsBothScene, AreBothSlashed, BothGoOn}
-use Rattle.mod_redelegation.proofs.ReachedLemmas.{Reached}
+use Rattle.mod_redelegation.{specs.Scenes.{IsBothScene, AreBothSlashed, BothGoOn}, proofs.ReachedLemmas.Reached}
 use Rattle.mod_redelegation.proofs.slashing.slash_all.Given as goal
 
 abbrev pub invariant-loop-entry : goal.invariant-loop-entry

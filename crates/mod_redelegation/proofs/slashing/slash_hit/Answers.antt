@@ -1,18 +1,13 @@
-use Rattle.std.proofs.Common.{◌≡◌, ◌∙◌, sym, ap, subst, rules}
-use Rattle.std.specs.Prelude.{Ok, Err}
-use Rattle.base_roles.specs.Ground.{seen}
-use Rattle.base_roles.specs.Lent.{Unbonds, Following, IsAsTold}
-use Rattle.base_roles.specs.Staked.{validator_at}
+use Rattle.std.proofs.Common.{◌≡◌, ◌∙◌, sym, ap, subst, rules, Ok, Err}
+use Rattle.base_roles.specs.{Ground.seen, Lent.{Unbonds, Following, IsAsTold}, Staked.validator_at}
 use Rattle.base_roles.proofs.StakeLemmas.{on_ok, on_both}
 use Rattle.rule_modules.specs.Answers.{Leaves}
 use Rattle.rule_modules.specs.EntrySlashes.{part_of, part_left, burned_at_target, entry_hit, shares_hit}
 use Rattle.mod_staking.specs.Calls.{behind_log}
-use Rattle.mod_redelegation.specs.Scenes.{LeavesBoth}
-use Rattle.mod_redelegation.specs.Slashed.{part_hit}
+use Rattle.mod_redelegation.specs.{Scenes.LeavesBoth, Slashed.part_hit}
 use Rattle.mod_redelegation.proofs.BothLemmas.{entries-held, lent-followed, both-scene, both-slashed}
 use Rattle.mod_redelegation.proofs.GoesOnLemmas.{goes-none, both_go-followed}
-use Rattle.mod_redelegation.proofs.HitLemmas.{hit-is, leaves_both, both_no_memory}
-use Rattle.mod_redelegation.proofs.PartLemmas.{has_part}
+use Rattle.mod_redelegation.proofs.{HitLemmas.{hit-is, leaves_both, both_no_memory}, PartLemmas.has_part}
 use Rattle.mod_redelegation.proofs.slashing.slash_hit.Goals as goal
 
 pub slash_followed-requires-clause-in_order : goal.slash_followed-requires-clause-in_order

@@ -1,12 +1,8 @@
-use Rattle.std.proofs.Common.{◌∙◌, refl, sym, subst}
-use Rattle.std.specs.Prelude.{Ok}
-use Rattle.base_roles.specs.Ground.{seen}
-use Rattle.base_roles.specs.Lent.{Unbonds, Following}
+use Rattle.std.proofs.Common.{◌∙◌, refl, sym, subst, Ok}
+use Rattle.base_roles.specs.{Ground.seen, Lent.{Unbonds, Following}}
 use Rattle.rule_modules.specs.EntrySlashes.{is_hit, entry_hit}
 use Rattle.mod_staking.specs.Calls.{behind_log}
-use Rattle.mod_redelegation.specs.Scenes.{LeavesBoth}
-use Rattle.mod_redelegation.proofs.BothLemmas.{both-none}
-use Rattle.mod_redelegation.proofs.GoesOnLemmas.{both_go-none}
+use Rattle.mod_redelegation.{specs.Scenes.LeavesBoth, proofs.{BothLemmas.both-none, GoesOnLemmas.both_go-none}}
 use Rattle.mod_redelegation.proofs.TargetLemmas.{cond_true, cond_false}
 use Rattle.mod_redelegation.proofs.slashing.slash_one.Goals as goal
 

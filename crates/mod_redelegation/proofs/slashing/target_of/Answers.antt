@@ -1,5 +1,4 @@
-use Rattle.std.proofs.Common.{◌∙◌, None, cond, sym, ap, subst}
-use Rattle.std.specs.Prelude.{◌≡◌, ◌==◌, IfSome}
+use Rattle.std.proofs.Common.{◌∙◌, None, cond, sym, ap, subst, ◌≡◌, ◌==◌, IfSome}
 use Rattle.base_roles.specs.Staked.{validator_at}
 use Rattle.mod_redelegation.proofs.TargetLemmas.{none_either, own_unless_none}
 use Rattle.mod_redelegation.proofs.slashing.target_of.Goals as goal

@@ -1,13 +1,7 @@
-use Rattle.std.proofs.Common.{◌≡◌, ◌∙◌, ◌≤◌, sym, ap, subst, rules}
-use Rattle.std.specs.Prelude.{Err}
-use Rattle.base_roles.specs.Ground.{seen}
-use Rattle.base_roles.specs.Lent.{Unbonds}
-use Rattle.base_roles.specs.Holdings.{balance_of}
-use Rattle.base_roles.specs.Staked.{lists_of}
-use Rattle.base_roles.specs.World.{burnt}
+use Rattle.std.proofs.Common.{◌≡◌, ◌∙◌, ◌≤◌, sym, ap, subst, rules, Err}
+use Rattle.base_roles.specs.{Ground.seen, Lent.Unbonds, Holdings.balance_of, Staked.lists_of, World.burnt}
 use Rattle.base_types.specs.declared.account.Account.TheVariants as account
-use Rattle.rule_modules.specs.Answers.{Leaves}
-use Rattle.rule_modules.specs.Stakes.{pool_of}
+use Rattle.rule_modules.specs.{Answers.Leaves, Stakes.pool_of}
 use Rattle.mod_staking.specs.Calls.{behind_log}
 use Rattle.mod_redelegation.specs.Slashed.{unbonded_burnt}
 use Rattle.mod_redelegation.proofs.BurntLemmas.{can_burn, slashed-once, held-burnt, stand-burnt}

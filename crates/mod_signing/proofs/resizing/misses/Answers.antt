@@ -1,9 +1,7 @@
-use Rattle.std.proofs.Common.{◌∙◌, ◌+◌, false, cond, get_or, take, sym, ap, arith}
-use Rattle.std.proofs.lemmas.List.{length-take, take_all}
+use Rattle.std.proofs.Common.{◌∙◌, ◌+◌, false, cond, get_or, take, sym, ap, arith, length-take, take_all}
 use Rattle.std.proofs.lemmas.Option.{slice_get-get_or}
 use Rattle.rule_modules.specs.Amounts.{count_where}
-use Rattle.mod_signing.proofs.InfoLemmas.{few_set}
-use Rattle.mod_signing.proofs.LoopLemmas.{count_more, one_most}
+use Rattle.mod_signing.proofs.{InfoLemmas.few_set, LoopLemmas.{count_more, one_most}}
 use Rattle.mod_signing.proofs.resizing.misses.Goals as goal
 
 pub overflow_add-missed : goal.overflow_add-missed

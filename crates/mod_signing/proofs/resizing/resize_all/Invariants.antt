@@ -1,8 +1,7 @@
 use Rattle.std.proofs.Common.{◌≡◌, length}
 use Rattle.base_types.specs.Orders.{cons_cmp}
 use Rattle.base_records.proofs.WalkLemmas.{left_of}
-use Rattle.mod_signing.specs.Kept.{behind}
-use Rattle.mod_signing.proofs.ResizedLemmas.{ResizedUpTo}
+use Rattle.mod_signing.{specs.Kept.behind, proofs.ResizedLemmas.ResizedUpTo}
 use Rattle.mod_signing.proofs.resizing.resize_all.Given as goal
 
 abbrev pub invariant-loop-at : goal.invariant-loop-at

@@ -1,9 +1,7 @@
 use Rattle.std.proofs.Common.{◌∙◌, sym, ap}
 use Rattle.base_roles.proofs.StakeLemmas.{on_ok}
 use Rattle.rule_modules.specs.Amounts.{count_where}
-use Rattle.mod_signing.specs.Kept.{keeping}
-use Rattle.mod_signing.specs.Resizing.{last_votes_of}
-use Rattle.mod_signing.proofs.CallLemmas.{places_are}
+use Rattle.mod_signing.{specs.{Kept.keeping, Resizing.last_votes_of}, proofs.CallLemmas.places_are}
 use Rattle.mod_signing.proofs.ResizedLemmas.{record_cut, record_kept, spent_stays}
 use Rattle.mod_signing.proofs.resizing.resize_one.Goals as goal
 

@@ -1,6 +1,5 @@
 use Rattle.std.proofs.Common.{inl, inr}
-use Rattle.mod_signing.proofs.ItemLemmas.{always-err}
-use Rattle.mod_signing.proofs.TouchedLemmas.{other-unlisted}
+use Rattle.mod_signing.proofs.{ItemLemmas.always-err, TouchedLemmas.other-unlisted}
 use Rattle.mod_signing.proofs.tables.put_whole.Goals as goal
 
 pub returns-in_err-put-clause-entries_err : goal.returns-in_err-put-clause-entries_err

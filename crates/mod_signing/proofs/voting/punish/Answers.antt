@@ -1,11 +1,8 @@
 use Rattle.std.proofs.Common.{rules, Err, ◌≡◌, ◌∙◌, ◌+◌, sym, subst}
-use Rattle.base_roles.specs.Ground.{seen}
-use Rattle.base_roles.specs.Hooks.{Stands}
-use Rattle.base_roles.specs.Staked.{lists_of, bonded_tokens, other_tokens}
-use Rattle.base_roles.proofs.HookLemmas.{stands-noted}
+use Rattle.base_roles.specs.{Ground.seen, Hooks.Stands, Staked.{lists_of, bonded_tokens, other_tokens}}
+use Rattle.base_roles.proofs.{HookLemmas.stands-noted, StakeLemmas.{holds-jailed, still_known}}
 use Rattle.rule_modules.specs.Answers.{Leaves}
 use Rattle.mod_signing.specs.Calls.{downtime_slashed}
-use Rattle.base_roles.proofs.StakeLemmas.{holds-jailed, still_known}
 use Rattle.mod_signing.proofs.SlashLemmas.{falls-jailed, ground-noted, jail-wants, slash-fails, slash-jails}
 use Rattle.mod_signing.proofs.voting.punish.Goals as goal
 

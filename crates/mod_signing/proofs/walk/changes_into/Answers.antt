@@ -1,14 +1,12 @@
 use Rattle.std.proofs.Common.{◌≡◌, ◌∙◌, ◌+◌, ◌++◌, drop, sym, ap}
 use Rattle.std.proofs.lemmas.List.{drop_all}
 use Rattle.base_types.specs.Orders.{cons_cmp}
-use Rattle.base_records.specs.Items.{changes_of}
-use Rattle.base_records.proofs.WalkLemmas.{touched-next}
+use Rattle.base_records.{specs.Items.changes_of, proofs.WalkLemmas.touched-next}
 use Rattle.base_roles.specs.Entries.{at}
-use Rattle.mod_signing.specs.Items.{same_signed, signing_gone, signing_item, touched_over}
-use Rattle.mod_signing.specs.Kept.{kept_of}
+use Rattle.mod_signing.specs.{Items.{same_signed, signing_gone, signing_item, touched_over}, Kept.kept_of}
 use Rattle.mod_signing.proofs.WalkLemmas.{signing_change, signings-all, signings-more, signings-same}
-use Rattle.mod_signing.proofs.walk.changes_into.Goals as goal
 use Rattle.mod_signing.proofs.walk.changes_into.Goals.{in-Some+in_ok-push, in_default}
+use Rattle.mod_signing.proofs.walk.changes_into.Goals as goal
 
 pub loop-cons-preserved : goal.loop-cons-preserved
 loop-cons-preserved g c =

@@ -1,7 +1,6 @@
 use Rattle.std.proofs.Common.{◌≡◌, ◌∙◌, true, false, sym, ap, arith}
 use Rattle.std.proofs.lemmas.Grind.{common_steps}
-use Rattle.mod_signing.specs.Rings.{ring_of}
-use Rattle.mod_signing.specs.Items.{signed_over}
+use Rattle.mod_signing.specs.{Rings.ring_of, Items.signed_over}
 use Rattle.mod_signing.proofs.ItemLemmas.{as-rings, other-info, other-length, other-ring}
 use Rattle.mod_signing.proofs.walk.is_same.Goals as goal
 

@@ -2,8 +2,7 @@ use Rattle.std.proofs.Common.{◌≡◌, ◌∙◌, ◌++◌, [], ◌∷◌, Som
 use Rattle.base_types.specs.Orders.{cons_cmp}
 use Rattle.base_table.specs.Tabled.{entry_above}
 use Rattle.base_records.proofs.WalkLemmas.{walked-more, walk-shorter}
-use Rattle.mod_signing.proofs.TableLemmas.{cons_total}
-use Rattle.mod_signing.proofs.WalkLemmas.{entry_item, listed-all}
+use Rattle.mod_signing.proofs.{TableLemmas.cons_total, WalkLemmas.{entry_item, listed-all}}
 use Rattle.mod_signing.proofs.walk.items_into.Goals as goal
 
 pub loop-cons-preserved : goal.loop-cons-preserved

@@ -1,7 +1,5 @@
-use Rattle.std.proofs.Common.{◌≡◌, ◌∙◌, ◌++◌, [], ◌∷◌, sym, ap, append_assoc, arith}
-use Rattle.std.proofs.lemmas.List.{append-nil}
-use Rattle.mod_signing.specs.Rings.{is_set, places_of}
-use Rattle.mod_signing.proofs.UptoLemmas.{first_more}
+use Rattle.std.proofs.Common.{◌≡◌, ◌∙◌, ◌++◌, [], ◌∷◌, sym, ap, append_assoc, arith, append-nil}
+use Rattle.mod_signing.{specs.Rings.{is_set, places_of}, proofs.UptoLemmas.first_more}
 use Rattle.mod_signing.proofs.walk.push_places.Goals as goal
 
 pub loop-place-init : goal.loop-place-init

@@ -2,8 +2,7 @@ use Rattle.std.proofs.Common.{◌≡◌, ◌∙◌, ◌+◌, ◌/◌, ◌%◌, �
 use Rattle.base_table.specs.Tabled.{value_at}
 use Rattle.mod_signing.specs.Rings.{ring_of, row_cmp}
 use Rattle.mod_signing.proofs.LoopLemmas.{IsBegun, begun_all, begun_more, next_whole, still_whole}
-use Rattle.mod_signing.proofs.TableLemmas.{ring_other}
-use Rattle.mod_signing.proofs.TouchedLemmas.{row-touched}
+use Rattle.mod_signing.proofs.{TableLemmas.ring_other, TouchedLemmas.row-touched}
 use Rattle.mod_signing.proofs.walk.put_ring.Goals as goal
 
 pub loop-from-init : goal.loop-from-init

@@ -1,9 +1,7 @@
-use Rattle.std.proofs.Common.{◌≡◌, ◌⊎◌, ℕ, ◌-◌, ◌%◌, ◌≤◌, List, false, length}
-use Rattle.std.specs.Ordering.{is_eq}
+use Rattle.std.proofs.Common.{◌≡◌, ◌⊎◌, ℕ, ◌-◌, ◌%◌, ◌≤◌, List, false, length, is_eq}
 use Rattle.base_types.specs.Orders.{cons_cmp}
 use Rattle.base_table.specs.Tabled.{value_at}
-use Rattle.mod_signing.specs.Rings.{ring_of, row_cmp}
-use Rattle.mod_signing.proofs.LoopLemmas.{IsBegun}
+use Rattle.mod_signing.{specs.Rings.{ring_of, row_cmp}, proofs.LoopLemmas.IsBegun}
 use Rattle.mod_signing.proofs.walk.put_ring.Given as goal
 
 abbrev pub invariant-loop-from : goal.invariant-loop-from

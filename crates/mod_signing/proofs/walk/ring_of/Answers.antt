@@ -1,6 +1,5 @@
 use Rattle.std.proofs.Common.{◌≡◌, ◌∙◌, ◌++◌, ◌%◌, ◌≤◌, refl, sym, ap, inl, arith}
-use Rattle.mod_signing.specs.Rings.{places_of, ring_of}
-use Rattle.mod_signing.proofs.LoopLemmas.{next_whole, still_whole}
+use Rattle.mod_signing.{specs.Rings.{places_of, ring_of}, proofs.LoopLemmas.{next_whole, still_whole}}
 use Rattle.mod_signing.proofs.WalkLemmas.{ring_more}
 use Rattle.mod_signing.proofs.walk.ring_of.Goals as goal
 

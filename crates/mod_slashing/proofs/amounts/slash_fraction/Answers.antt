@@ -1,5 +1,4 @@
-use Rattle.std.proofs.Common.{refl, sym, subst}
-use Rattle.std.specs.Prelude.{IsOk}
+use Rattle.std.proofs.Common.{refl, sym, subst, IsOk}
 use Rattle.mod_slashing.proofs.AmountLemmas.{quotient-is, fraction-is, fraction-few}
 use Rattle.mod_slashing.proofs.amounts.slash_fraction.Goals as goal
 

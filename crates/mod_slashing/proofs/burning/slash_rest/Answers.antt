@@ -1,7 +1,5 @@
-use Rattle.std.proofs.Common.{◌≡◌, ◌∙◌, sym, ap}
-use Rattle.std.specs.Prelude.{Some}
-use Rattle.base_roles.specs.Ground.{seen}
-use Rattle.base_roles.specs.Staked.{validator_at}
+use Rattle.std.proofs.Common.{◌≡◌, ◌∙◌, sym, ap, Some}
+use Rattle.base_roles.specs.{Ground.seen, Staked.validator_at}
 use Rattle.rule_modules.proofs.SoundLemmas.{to_points}
 use Rattle.mod_slashing.proofs.BurntLemmas.{has-tokens}
 use Rattle.mod_slashing.proofs.burning.slash_rest.Goals as goal

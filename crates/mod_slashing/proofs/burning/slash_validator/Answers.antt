@@ -1,15 +1,9 @@
-use Rattle.std.proofs.Common.{◌∙◌, ◌≤◌, [], sym, ap, subst, refl}
-use Rattle.std.specs.Prelude.{is_some, option_map}
+use Rattle.std.proofs.Common.{◌∙◌, ◌≤◌, [], sym, ap, subst, refl, is_some, option_map}
 use Rattle.base_types.specs.declared.account.Account.TheVariants as account
 use Rattle.base_types.specs.declared.account.Module.{Module}
-use Rattle.base_roles.specs.Ground.{seen}
-use Rattle.base_roles.specs.Holdings.{balance_of}
-use Rattle.base_roles.specs.Hooks.{Stand}
-use Rattle.base_roles.specs.Staked.{lists_of}
-use Rattle.base_roles.specs.StakeChanges.{StillStand}
+use Rattle.base_roles.specs.{Ground.seen, Holdings.balance_of, Hooks.Stand, Staked.lists_of, StakeChanges.StillStand}
 use Rattle.base_roles.specs.World.{burnt}
-use Rattle.mod_staking.specs.Calls.{with_if}
-use Rattle.mod_staking.proofs.ListLemmas.{lists-put}
+use Rattle.mod_staking.{specs.Calls.with_if, proofs.ListLemmas.lists-put}
 use Rattle.rule_modules.proofs.SoundLemmas.{to_points}
 use Rattle.mod_slashing.proofs.BurntLemmas.{ready-slash, slash-leaves, has-burned, falls-own, stand-burnt, less_by, within}
 use Rattle.mod_slashing.proofs.StillLemmas.{still-put}

@@ -1,9 +1,7 @@
 use Rattle.std.proofs.Common.{◌≡◌, ◌∙◌, ap, sym}
 use Rattle.base_types.specs.Orders.{addr_cmp, cons_cmp}
 use Rattle.base_roles.specs.Entries.{at, with}
-use Rattle.mod_staking.specs.Registered.{operator_by_cons}
-use Rattle.mod_staking.specs.Joint.{listed}
-use Rattle.mod_staking.proofs.IndexLemmas.{listed-joined}
+use Rattle.mod_staking.{specs.{Registered.operator_by_cons, Joint.listed}, proofs.IndexLemmas.listed-joined}
 use Rattle.mod_staking.proofs.index.put_both.Goals as goal
 
 pub returns-in-Ok-put-clause-index : goal.returns-in-Ok-put-clause-index

@@ -1,8 +1,7 @@
 use Rattle.std.proofs.Common.{◌≡◌, ◌∙◌, ap, sym}
 use Rattle.base_types.specs.Orders.{addr_cmp, cons_cmp}
 use Rattle.base_roles.specs.Entries.{at, without}
-use Rattle.mod_staking.specs.Registered.{operator_by_cons}
-use Rattle.mod_staking.proofs.IndexLemmas.{index-left}
+use Rattle.mod_staking.{specs.Registered.operator_by_cons, proofs.IndexLemmas.index-left}
 use Rattle.mod_staking.proofs.index.take_both.Goals as goal
 
 pub returns-in-Ok-remove-clause-index : goal.returns-in-Ok-remove-clause-index

@@ -1,5 +1,4 @@
-use Rattle.std.proofs.Common.{◌∙◌, ap}
-use Rattle.std.specs.Option.{option_copied}
+use Rattle.std.proofs.Common.{◌∙◌, ap, option_copied}
 use Rattle.base_table.specs.Tabled.{entry_above}
 use Rattle.mod_staking.proofs.PlaceLemmas.{behind-some, behind-none}
 use Rattle.mod_staking.proofs.listed.first_behind.Goals as goal

@@ -1,6 +1,5 @@
 use Rattle.std.proofs.Common.{◌∙◌, ap, subst}
-use Rattle.mod_staking.specs.Places.{AreMoved}
-use Rattle.mod_staking.proofs.ListedLemmas.{all_listed-moved, moved_through}
+use Rattle.mod_staking.{specs.Places.AreMoved, proofs.ListedLemmas.{all_listed-moved, moved_through}}
 use Rattle.mod_staking.proofs.listed.write.Goals as goal
 
 pub returns-in-Ok-clause-listed : goal.returns-in-Ok-clause-listed

@@ -1,6 +1,5 @@
 use Rattle.std.proofs.Common.{◌∙◌, ap, sym, arith}
-use Rattle.mod_statement.specs.Slack.{denoms_over, denoms_with}
-use Rattle.mod_statement.proofs.Walks.{entries_more, entries_end}
+use Rattle.mod_statement.{specs.Slack.{denoms_over, denoms_with}, proofs.Walks.{entries_more, entries_end}}
 use Rattle.mod_statement.proofs.denoms.denoms_of.Goals as goal
 
 pub loop-entry-init : goal.loop-entry-init

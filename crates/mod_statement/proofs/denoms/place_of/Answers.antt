@@ -1,5 +1,4 @@
-use Rattle.std.proofs.Common.{◌≡◌, ◌≤◌, ◌<◌, ◌∙◌, [], length, get_or, refl, sym, below_more, arith}
-use Rattle.std.specs.declared.cmp.Ordering.TheVariants.{Less, Equal, Greater}
+use Rattle.std.proofs.Common.{◌≡◌, ◌≤◌, ◌<◌, ◌∙◌, [], length, get_or, refl, sym, below_more, arith, Less, Equal, Greater}
 use Rattle.base_types.specs.Orders.{denom_cmp}
 use Rattle.mod_statement.proofs.Places.{put_at, stands_at, compared, put_last}
 use Rattle.mod_statement.proofs.denoms.place_of.Goals as goal

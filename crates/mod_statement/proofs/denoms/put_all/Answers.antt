@@ -1,6 +1,5 @@
 use Rattle.std.proofs.Common.{ap, sym, arith}
-use Rattle.mod_statement.specs.Slack.{denoms_with}
-use Rattle.mod_statement.proofs.Walks.{denoms_more, denoms_end}
+use Rattle.mod_statement.{specs.Slack.denoms_with, proofs.Walks.{denoms_more, denoms_end}}
 use Rattle.mod_statement.proofs.denoms.put_all.Goals as goal
 
 pub loop-coin-init : goal.loop-coin-init

@@ -1,6 +1,5 @@
 use Rattle.std.proofs.Common.{◌≡◌, drop, map}
-use Rattle.mod_statement.specs.Slack.{denoms_with}
-use Rattle.mod_statement.proofs.Walks.{seen}
+use Rattle.mod_statement.{specs.Slack.denoms_with, proofs.Walks.seen}
 use Rattle.mod_statement.proofs.denoms.put_all.Given as goal
 
 abbrev pub invariant-loop-coin : goal.invariant-loop-coin

@@ -1,5 +1,4 @@
-use Rattle.std.proofs.Common.{◌^◌, ◌<◌, ◌∙◌, refl, subst, sym, arith}
-use Rattle.std.specs.Prelude.{IsOk}
+use Rattle.std.proofs.Common.{◌^◌, ◌<◌, ◌∙◌, refl, subst, sym, arith, IsOk}
 use Rattle.mod_statement.proofs.Rounded.{part_cut_fits}
 use Rattle.mod_statement.proofs.rounding.part_cut.Goals as goal
 

@@ -1,6 +1,5 @@
 use Rattle.std.proofs.Common.{◌≡◌, ◌<◌, ◌≤◌, ◌∙◌, true, false, length, get_or, sym, below_more, arith}
-use Rattle.mod_statement.specs.declared.entry.Entry.TheVariants.{Ended}
-use Rattle.mod_statement.specs.Entries.{is_slash}
+use Rattle.mod_statement.specs.{declared.entry.Entry.TheVariants.Ended, Entries.is_slash}
 use Rattle.mod_statement.proofs.Stretches.{stretch_is, stretch_whole, slash_at}
 use Rattle.mod_statement.proofs.slack.first_stretch.Goals as goal
 

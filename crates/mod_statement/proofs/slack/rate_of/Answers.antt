@@ -1,8 +1,7 @@
 use Rattle.std.proofs.Common.{◌∙◌, ap, sym, arith}
 use Rattle.std.proofs.lemmas.Result.{err_from_is_err_and}
 use Rattle.base_decimals.specs.Decimals.{add_of}
-use Rattle.mod_statement.specs.Slack.{rate_of}
-use Rattle.mod_statement.proofs.Walks.{rate_more, rate_over, rate_end}
+use Rattle.mod_statement.{specs.Slack.rate_of, proofs.Walks.{rate_more, rate_over, rate_end}}
 use Rattle.mod_statement.proofs.slack.rate_of.Goals as goal
 
 pub loop-entry-init : goal.loop-entry-init

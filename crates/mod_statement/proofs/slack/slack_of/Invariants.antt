@@ -1,7 +1,5 @@
 use Rattle.std.proofs.Common.{◌≡◌, drop, map}
-use Rattle.mod_statement.specs.Slack.{slacks_of}
-use Rattle.mod_statement.proofs.Slacks.{behind}
-use Rattle.mod_statement.proofs.Walks.{seen}
+use Rattle.mod_statement.{specs.Slack.slacks_of, proofs.{Slacks.behind, Walks.seen}}
 use Rattle.mod_statement.proofs.slack.slack_of.Given as goal
 
 abbrev pub invariant-loop-denom : goal.invariant-loop-denom

@@ -1,10 +1,6 @@
-use Rattle.std.proofs.Common.{◌≡◌, List, subst}
-use Rattle.std.specs.Prelude.{All, Ok}
+use Rattle.std.proofs.Common.{◌≡◌, List, subst, All, Ok}
 use Rattle.std.proofs.lemmas.Result.{err_from_is_err_and}
-use Rattle.mod_statement.specs.declared.entry.Entry.{Entry}
-use Rattle.mod_statement.specs.Answers.{IsFaultOf}
-use Rattle.mod_statement.specs.Bounds.{bounds_of}
-use Rattle.mod_statement.specs.Entries.{HasMoney}
+use Rattle.mod_statement.specs.{declared.entry.Entry.Entry, Answers.IsFaultOf, Bounds.bounds_of, Entries.HasMoney}
 use Rattle.mod_statement.proofs.Bracketing.{right_is_bracketed}
 use Rattle.mod_statement.proofs.statement.check.Goals as goal
 

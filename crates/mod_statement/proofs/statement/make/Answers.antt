@@ -1,9 +1,6 @@
-use Rattle.std.proofs.Common.{◌≡◌, List, subst}
-use Rattle.std.specs.Prelude.{Ok}
+use Rattle.std.proofs.Common.{◌≡◌, List, subst, Ok}
 use Rattle.std.proofs.lemmas.Result.{err_from_is_err_and}
-use Rattle.mod_statement.specs.declared.entry.Entry.{Entry}
-use Rattle.mod_statement.specs.Answers.{IsFaultOf}
-use Rattle.mod_statement.specs.Bounds.{bounds_of}
+use Rattle.mod_statement.specs.{declared.entry.Entry.Entry, Answers.IsFaultOf, Bounds.bounds_of}
 use Rattle.mod_statement.proofs.statement.make.Goals as goal
 
 pub returns-in_err-bounds-clause-fault : goal.returns-in_err-bounds-clause-fault

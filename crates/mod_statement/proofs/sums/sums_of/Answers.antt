@@ -1,10 +1,6 @@
-use Rattle.std.proofs.Common.{◌<◌, length, subst, arith}
-use Rattle.std.specs.Prelude.{All}
-use Rattle.std.proofs.lemmas.List.{take_all}
-use Rattle.std.proofs.lemmas.List.Elements.{All-more}
-use Rattle.std.proofs.lemmas.Result.{err_from_is_err_and}
-use Rattle.mod_statement.specs.Entries.{HasMoney}
-use Rattle.mod_statement.proofs.Walks.{sums_more, sums_fault, sums_end}
+use Rattle.std.proofs.Common.{◌<◌, length, subst, arith, All, take_all}
+use Rattle.std.proofs.lemmas.{List.Elements.All-more, Result.err_from_is_err_and}
+use Rattle.mod_statement.{specs.Entries.HasMoney, proofs.Walks.{sums_more, sums_fault, sums_end}}
 use Rattle.mod_statement.proofs.sums.sums_of.Goals as goal
 
 pub loop-entry-preserved : goal.loop-entry-preserved

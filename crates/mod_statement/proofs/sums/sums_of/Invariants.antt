@@ -1,7 +1,5 @@
-use Rattle.std.proofs.Common.{◌≡◌, drop, take}
-use Rattle.std.specs.Prelude.{All}
-use Rattle.mod_statement.specs.Entries.{HasMoney}
-use Rattle.mod_statement.specs.Sums.{no_sums, sums_over}
+use Rattle.std.proofs.Common.{◌≡◌, drop, take, All}
+use Rattle.mod_statement.specs.{Entries.HasMoney, Sums.{no_sums, sums_over}}
 use Rattle.mod_statement.proofs.sums.sums_of.Given as goal
 
 abbrev pub invariant-loop-entry : goal.invariant-loop-entry

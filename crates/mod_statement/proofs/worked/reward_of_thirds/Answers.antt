@@ -1,5 +1,4 @@
-use Rattle.std.proofs.Common.{ℕ, ◌+◌, ◌*◌, ◌^◌, ◌≤◌, true, false, cond, List, refl, arith}
-use Rattle.std.specs.Prelude.{Some, None, unwrap_or}
+use Rattle.std.proofs.Common.{ℕ, ◌+◌, ◌*◌, ◌^◌, ◌≤◌, true, false, cond, List, refl, arith, Some, None, unwrap_or}
 use Rattle.std.specs.BTreeMap.{is_at}
 use Rattle.base_types.specs.Orders.{denom_cmp}
 use Rattle.base_coins.specs.Coins.{amount_of}

@@ -1,11 +1,10 @@
 use Rattle.std.proofs.Common.{ℕ, List, sym}
 use Rattle.base_types.specs.Orders.{addr_cmp}
 use Rattle.base_roles.specs.Entries.{at}
-use Rattle.mod_tally.specs.Taken.{delegation_in}
-use Rattle.mod_tally.proofs.Stepping.{along_next, along_same, first_can}
+use Rattle.mod_tally.{specs.Taken.delegation_in, proofs.Stepping.{along_next, along_same, first_can}}
 use Rattle.mod_tally.proofs.Told.{told_none, told_some}
-use Rattle.mod_tally.proofs.counting.count_delegations.Goals as goal
 use Rattle.mod_tally.proofs.counting.count_delegations.Goals.{in-Some+in_ok-count_delegation, in_default}
+use Rattle.mod_tally.proofs.counting.count_delegations.Goals as goal
 
 pub count_delegation-requires : goal.count_delegation-requires
 count_delegation-requires c =

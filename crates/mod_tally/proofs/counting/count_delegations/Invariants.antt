@@ -1,10 +1,7 @@
-use Rattle.std.proofs.Common.{drop}
-use Rattle.std.specs.List.{filter_map}
+use Rattle.std.proofs.Common.{drop, filter_map}
 use Rattle.base_types.specs.Orders.{addr_cmp}
 use Rattle.base_roles.specs.Entries.{at}
-use Rattle.mod_tally.specs.Counting.{walked}
-use Rattle.mod_tally.specs.Taken.{delegation_in}
-use Rattle.mod_tally.proofs.Stepping.{IsAlong}
+use Rattle.mod_tally.{specs.{Counting.walked, Taken.delegation_in}, proofs.Stepping.IsAlong}
 use Rattle.mod_tally.proofs.counting.count_delegations.Given as goal
 
 abbrev pub invariant-loop-item : goal.invariant-loop-item

@@ -1,7 +1,6 @@
 use Rattle.base_types.specs.Orders.{addr_cmp}
 use Rattle.base_roles.specs.Entries.{at}
-use Rattle.mod_tally.specs.Counting.{closed}
-use Rattle.mod_tally.proofs.Stepping.{IsClosing}
+use Rattle.mod_tally.{specs.Counting.closed, proofs.Stepping.IsClosing}
 use Rattle.mod_tally.proofs.counting.count_operators.Given as goal
 
 abbrev pub invariant-loop-operator : goal.invariant-loop-operator

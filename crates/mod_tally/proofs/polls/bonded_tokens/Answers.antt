@@ -1,7 +1,5 @@
-use Rattle.std.proofs.Common.{◌≡◌, ℕ, ◌+◌, drop, arith}
-use Rattle.std.specs.List.{sum_by}
-use Rattle.mod_tally.specs.Counting.{bonded_in}
-use Rattle.mod_tally.proofs.Told.{next_summed}
+use Rattle.std.proofs.Common.{◌≡◌, ℕ, ◌+◌, drop, arith, sum_by}
+use Rattle.mod_tally.{specs.Counting.bonded_in, proofs.Told.next_summed}
 use Rattle.mod_tally.proofs.polls.bonded_tokens.Goals as goal
 
 pub overflow_add-total : goal.overflow_add-total

@@ -1,5 +1,4 @@
-use Rattle.std.proofs.Common.{◌≡◌, ◌+◌, drop}
-use Rattle.std.specs.List.{sum_by}
+use Rattle.std.proofs.Common.{◌≡◌, ◌+◌, drop, sum_by}
 use Rattle.mod_tally.specs.Counting.{bonded_in}
 use Rattle.mod_tally.proofs.polls.bonded_tokens.Given as goal
 

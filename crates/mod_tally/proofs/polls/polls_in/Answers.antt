@@ -1,9 +1,8 @@
 use Rattle.std.proofs.Common.{sym}
 use Rattle.base_types.specs.Orders.{addr_cmp}
-use Rattle.mod_tally.specs.Counting.{poll_in}
-use Rattle.mod_tally.proofs.Told.{next_put, next_skipped}
-use Rattle.mod_tally.proofs.polls.polls_in.Goals as goal
+use Rattle.mod_tally.{specs.Counting.poll_in, proofs.Told.{next_put, next_skipped}}
 use Rattle.mod_tally.proofs.polls.polls_in.Goals.{in-Some+in_ok-insert, in_default}
+use Rattle.mod_tally.proofs.polls.polls_in.Goals as goal
 
 pub loop-item-preserved : goal.loop-item-preserved
 loop-item-preserved c =

@@ -1,5 +1,4 @@
-use Rattle.std.proofs.Common.{◌≡◌, drop}
-use Rattle.std.specs.List.{filter_map}
+use Rattle.std.proofs.Common.{◌≡◌, drop, filter_map}
 use Rattle.base_types.specs.Orders.{addr_cmp}
 use Rattle.rule_machine.specs.Orders.{entries_with, in_order}
 use Rattle.mod_tally.specs.Counting.{poll_in}

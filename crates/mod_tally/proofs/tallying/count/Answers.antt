@@ -1,12 +1,10 @@
-use Rattle.std.proofs.Common.{◌≡◌, ◌∙◌, ℕ, ◌^◌, ◌<◌, List, length, arith, sym, ap, subst}
-use Rattle.std.specs.List.{filter_map, sum_by}
+use Rattle.std.proofs.Common.{◌≡◌, ◌∙◌, ℕ, ◌^◌, ◌<◌, List, length, arith, sym, ap, subst, filter_map, sum_by}
 use Rattle.base_types.specs.Orders.{addr_cmp}
 use Rattle.base_roles.specs.Entries.{at}
 use Rattle.rule_machine.specs.Orders.{in_order}
 use Rattle.mod_tally.specs.Ballots.{Chosen}
 use Rattle.mod_tally.specs.Counting.{CanClose, CanWalk, Running, bonded_in, closed, nothing_counted, poll_in, walked}
-use Rattle.mod_tally.specs.Taken.{delegation_in}
-use Rattle.mod_tally.specs.Tally.{Delegations}
+use Rattle.mod_tally.specs.{Taken.delegation_in, Tally.Delegations}
 use Rattle.mod_tally.proofs.Tallied.{IsCounted, bonded_few, counted_all, start_of}
 use Rattle.mod_tally.proofs.tallying.count.Goals as goal
 

@@ -1,9 +1,7 @@
 use Rattle.std.proofs.Common.{◌≡◌, IfOk, subst}
 use Rattle.base_types.specs.Orders.{addr_cmp}
 use Rattle.base_roles.specs.Entries.{at}
-use Rattle.mod_tally.specs.Ballots.{Chosen, chosen_in}
-use Rattle.mod_tally.specs.Taken.{staked_in}
-use Rattle.mod_tally.specs.Tally.{tally_of}
+use Rattle.mod_tally.specs.{Ballots.{Chosen, chosen_in}, Taken.staked_in, Tally.tally_of}
 use Rattle.mod_tally.proofs.tallying.tally.Goals as goal
 
 pub returns-clause-tally : goal.returns-clause-tally

@@ -1,5 +1,4 @@
-use Rattle.std.proofs.Common.{◌≡◌, drop}
-use Rattle.std.specs.Prelude.{find}
+use Rattle.std.proofs.Common.{◌≡◌, drop, find}
 use Rattle.rule_modules.specs.Unbondings.{can_be_cancelled}
 use Rattle.mod_unbonding.proofs.changing.first_open.Given as goal
 

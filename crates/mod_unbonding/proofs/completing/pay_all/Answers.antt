@@ -1,8 +1,7 @@
 use Rattle.std.proofs.Common.{◌∙◌, ◌+◌, ◌≤◌, drop, refl, sym, ap, subst, cond, arith}
 use Rattle.base_roles.specs.Ground.{seen}
 use Rattle.rule_modules.specs.Unbondings.{is_mature}
-use Rattle.mod_entries.proofs.CountLemmas.{next_of}
-use Rattle.mod_entries.proofs.UndoneLemmas.{undone-none, undone-then}
+use Rattle.mod_entries.proofs.{CountLemmas.next_of, UndoneLemmas.{undone-none, undone-then}}
 use Rattle.mod_unbonding.proofs.PaidLemmas.{one-enough, paid-next, can_pay-next, paid-cost, paid-end}
 use Rattle.mod_unbonding.proofs.completing.pay_all.Goals as goal
 

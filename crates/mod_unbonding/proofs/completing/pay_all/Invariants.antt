@@ -1,7 +1,6 @@
 use Rattle.std.proofs.Common.{◌≡◌, ◌+◌, ◌*◌, ◌≤◌, drop}
 use Rattle.base_roles.specs.Ground.{seen, CanBeUndone}
-use Rattle.rule_modules.specs.Amounts.{count_where}
-use Rattle.rule_modules.specs.Unbondings.{is_mature, paid_back}
+use Rattle.rule_modules.specs.{Amounts.count_where, Unbondings.{is_mature, paid_back}}
 use Rattle.mod_unbonding.proofs.PaidLemmas.{CanPay}
 use Rattle.mod_unbonding.proofs.completing.pay_all.Given as goal
 

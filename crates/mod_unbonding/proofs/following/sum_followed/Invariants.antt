@@ -1,5 +1,4 @@
-use Rattle.std.proofs.Common.{◌≡◌, ◌+◌, ◌≤◌, drop}
-use Rattle.std.specs.Prelude.{◌-◌}
+use Rattle.std.proofs.Common.{◌≡◌, ◌+◌, ◌≤◌, drop, ◌-◌}
 use Rattle.rule_modules.specs.EntrySlashes.{entries_followed}
 use Rattle.mod_unbonding.proofs.following.sum_followed.Given as goal
 

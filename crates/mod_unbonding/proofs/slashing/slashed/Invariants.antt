@@ -1,5 +1,4 @@
-use Rattle.std.proofs.Common.{◌≡◌, ◌++◌, drop}
-use Rattle.std.specs.Prelude.{map}
+use Rattle.std.proofs.Common.{◌≡◌, ◌++◌, drop, map}
 use Rattle.rule_modules.specs.EntrySlashes.{entry_slashed}
 use Rattle.mod_unbonding.proofs.slashing.slashed.Given as goal
 

@@ -1,6 +1,5 @@
 use Rattle.std.proofs.Common.{List, ℕ, length}
-use Rattle.run_app.specs.Ballots.{AreTaken}
-use Rattle.run_app.proofs.BallotLemmas.{AreFed}
+use Rattle.run_app.{specs.Ballots.AreTaken, proofs.BallotLemmas.AreFed}
 use Rattle.run_app.proofs.balloting.feed_ballots.Given as goal
 
 abbrev pub invariant-loop-end : goal.invariant-loop-end

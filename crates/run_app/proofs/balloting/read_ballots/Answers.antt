@@ -1,7 +1,5 @@
-use Rattle.std.proofs.Common.{rules, arith, refl, ◌≡◌, ◌≢◌, ◌≤◌, ◌<◌, ◌+◌, ◌⊎◌, inl, inr, ℕ, List, [], ◌++◌, length, length-append, take, slice_index_or}
-use Rattle.std.proofs.lemmas.List.{length-take}
-use Rattle.run_app.specs.Machine.{longest}
-use Rattle.run_app.specs.Outcome.{most_bytes}
+use Rattle.std.proofs.Common.{rules, arith, refl, ◌≡◌, ◌≢◌, ◌≤◌, ◌<◌, ◌+◌, ◌⊎◌, inl, inr, ℕ, List, [], ◌++◌, length, length-append, take, slice_index_or, length-take}
+use Rattle.run_app.specs.{Machine.longest, Outcome.most_bytes}
 use Rattle.run_app.proofs.BallotLemmas.{all_kept, all_uncounted, bytes_of_ballots, over_input, over_long, stopped, taken_first, taken_number, unread}
 use Rattle.run_app.proofs.DriveLemmas.{byte_or, first_of, told_first, told_more}
 use Rattle.run_app.proofs.balloting.read_ballots.Goals.{else-piece-ne10-via-then-piece-ne10+else-len-eq-LONGEST, else-piece-ne10-via-else-piece-ne10}

@@ -1,7 +1,5 @@
 use Rattle.std.proofs.Common.{◌≡◌, ◌≤◌, ◌-◌, ℕ, List, length}
-use Rattle.run_app.specs.Ballots.{AreTaken}
-use Rattle.run_app.specs.Outcome.{most_bytes}
-use Rattle.run_app.specs.Told.{Told}
+use Rattle.run_app.specs.{Ballots.AreTaken, Outcome.most_bytes, Told.Told}
 use Rattle.run_app.proofs.balloting.read_ballots.Given as goal
 
 abbrev pub decreases-loop-taken : goal.decreases-loop-taken

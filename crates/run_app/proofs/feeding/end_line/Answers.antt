@@ -1,6 +1,5 @@
 use Rattle.std.proofs.Common.{◌∙◌}
-use Rattle.run_app.proofs.KeepLemmas.{later_still, left_of}
-use Rattle.run_app.proofs.PartLemmas.{extend_stops, line_stops, line_fed}
+use Rattle.run_app.proofs.{KeepLemmas.{later_still, left_of}, PartLemmas.{extend_stops, line_stops, line_fed}}
 use Rattle.run_app.proofs.feeding.end_line.Goals as goal
 
 pub returns-in-Err-clause-stops : goal.returns-in-Err-clause-stops

@@ -1,6 +1,5 @@
 use Rattle.std.proofs.Common.{◌∙◌, refl, arith}
-use Rattle.run_app.specs.Parts.{HasNoEnd}
-use Rattle.run_app.proofs.KeepLemmas.{left_of}
+use Rattle.run_app.{specs.Parts.HasNoEnd, proofs.KeepLemmas.left_of}
 use Rattle.run_app.proofs.PartLemmas.{fed_with, fed_first, fed_to_end, end_stops, fed_to_number, piece_fed, piece_stops}
 use Rattle.run_app.proofs.feeding.feed.Goals as goal
 

@@ -1,7 +1,5 @@
 use Rattle.std.proofs.Common.{◌≡◌, ◌≤◌, length}
-use Rattle.run_app.specs.Kept.{Began, Keeping}
-use Rattle.run_app.specs.Machine.{Standing}
-use Rattle.run_app.proofs.PartLemmas.{FedTo}
+use Rattle.run_app.{specs.{Kept.{Began, Keeping}, Machine.Standing}, proofs.PartLemmas.FedTo}
 use Rattle.run_app.proofs.feeding.feed.Given as goal
 
 abbrev pub invariant-loop-end : goal.invariant-loop-end

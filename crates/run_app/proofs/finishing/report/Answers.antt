@@ -1,6 +1,5 @@
 use Rattle.std.proofs.Common.{subst}
-use Rattle.run_app.specs.Machine.{StandsAt}
-use Rattle.run_app.proofs.PartLemmas.{nothing_reported}
+use Rattle.run_app.{specs.Machine.StandsAt, proofs.PartLemmas.nothing_reported}
 use Rattle.run_app.proofs.AnswerLemmas.{none_yet, lacking, report_failed, report_full, report_unflushed, report_written}
 use Rattle.run_app.proofs.finishing.report.Goals as goal
 

@@ -1,7 +1,5 @@
 use Rattle.std.proofs.Common.{◌≡◌, ◌∙◌, ap, sym, subst}
-use Rattle.run_app.specs.Machine.{not_applied}
-use Rattle.run_app.specs.Modes.{Tries}
-use Rattle.run_app.specs.Ending.{status_of}
+use Rattle.run_app.specs.{Machine.not_applied, Modes.Tries, Ending.status_of}
 use Rattle.run_app.proofs.ModeLemmas.{busy_so, cause_so, clean_so, keep_so, no_block, quiet_so, read_so, stopped_so, told_otherwise, tried, tried_at_block, tried_without_memory, written_so}
 use Rattle.run_app.proofs.generating.write_summary.Goals as goal
 

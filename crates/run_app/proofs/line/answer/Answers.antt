@@ -1,9 +1,7 @@
 use Rattle.std.proofs.Common.{None, ◌∙◌, refl}
-use Rattle.run_app.specs.Kept.{LeftIn}
-use Rattle.run_app.proofs.PartLemmas.{answer_long}
+use Rattle.run_app.{specs.Kept.LeftIn, proofs.PartLemmas.answer_long}
 use Rattle.run_app.proofs.AnswerLemmas.{block_fits, first_fits, same_answer, same_answers}
-use Rattle.run_app.proofs.KeepLemmas.{at_first, at_some, left_of}
-use Rattle.run_app.proofs.LineLemmas.{unanswered_stops}
+use Rattle.run_app.proofs.{KeepLemmas.{at_first, at_some, left_of}, LineLemmas.unanswered_stops}
 use Rattle.run_app.proofs.line.answer.Goals as goal
 
 pub returns-then-line-gt-LONGEST-clause-err : goal.returns-then-line-gt-LONGEST-clause-err

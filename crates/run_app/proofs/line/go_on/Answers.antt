@@ -1,6 +1,5 @@
 use Rattle.run_app.proofs.KeepLemmas.{answer_kept, answer_unkept, fault_kept, settled_for, stands_some}
-use Rattle.run_app.proofs.LineLemmas.{no_keep, not_kept_stops}
-use Rattle.run_app.proofs.RisenLemmas.{block_rises}
+use Rattle.run_app.proofs.{LineLemmas.{no_keep, not_kept_stops}, RisenLemmas.block_rises}
 use Rattle.run_app.proofs.line.go_on.Goals as goal
 
 pub returns-in-Err-clause-err : goal.returns-in-Err-clause-err

@@ -1,6 +1,5 @@
 use Rattle.std.proofs.Common.{refl}
-use Rattle.run_app.proofs.KeepLemmas.{answer_kept, answer_unkept, fault_kept, stands_some}
-use Rattle.run_app.proofs.LineLemmas.{no_keep}
+use Rattle.run_app.proofs.{KeepLemmas.{answer_kept, answer_unkept, fault_kept, stands_some}, LineLemmas.no_keep}
 use Rattle.run_app.proofs.line.start.Goals as goal
 
 pub returns-in-Err-clause-err : goal.returns-in-Err-clause-err

@@ -1,7 +1,5 @@
-use Rattle.run_app.proofs.LineLemmas.{long_only, no_write}
-use Rattle.run_app.proofs.PartLemmas.{answer_stops, write_stops, full_stops}
-use Rattle.run_app.proofs.AnswerLemmas.{took_on}
-use Rattle.run_app.proofs.KeepLemmas.{left_of}
+use Rattle.run_app.proofs.{LineLemmas.{long_only, no_write}, PartLemmas.{answer_stops, write_stops, full_stops}}
+use Rattle.run_app.proofs.{AnswerLemmas.took_on, KeepLemmas.left_of}
 use Rattle.run_app.proofs.line.take_line.Goals as goal
 
 pub returns-in-Ok-clause-took : goal.returns-in-Ok-clause-took

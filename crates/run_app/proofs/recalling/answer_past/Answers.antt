@@ -1,7 +1,6 @@
 use Rattle.std.proofs.Common.{inr, map, refl}
 use Rattle.base_io.specs.Changes.{pair_of}
-use Rattle.run_app.proofs.ModeLemmas.{nothing, quiet_at, quiet_keep, rows_left}
-use Rattle.run_app.proofs.PastLemmas.{not_loaded, past_loaded}
+use Rattle.run_app.proofs.{ModeLemmas.{nothing, quiet_at, quiet_keep, rows_left}, PastLemmas.{not_loaded, past_loaded}}
 use Rattle.run_app.proofs.ResumeLemmas.{no_rows_found, unresumed_busy, unresumed_cause, unresumed_quiet, unresumed_undone, unresumed_unread, unresumed_unwritten}
 use Rattle.run_app.proofs.recalling.answer_past.Goals as goal
 

@@ -1,6 +1,5 @@
 use Rattle.std.proofs.Common.{inl, inr, refl, ap, Err}
-use Rattle.run_app.proofs.DriveLemmas.{begun_busy}
-use Rattle.run_app.proofs.PartLemmas.{rose_later}
+use Rattle.run_app.proofs.{DriveLemmas.begun_busy, PartLemmas.rose_later}
 use Rattle.run_app.proofs.ModeLemmas.{nothing_done, quiet_at, quiet_read}
 use Rattle.run_app.proofs.ResumeLemmas.{all_taken, each_changes, leads_first, never_none, no_rows_found, not_brought, not_resumed, resumed_first, unresumed_busy, unresumed_cause, unresumed_quiet, unresumed_undone, unresumed_unread, unresumed_unwritten, went_on}
 use Rattle.run_app.proofs.resuming.resume.Goals as goal

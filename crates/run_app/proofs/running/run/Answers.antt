@@ -1,14 +1,9 @@
-use Rattle.std.proofs.Common.{map}
-use Rattle.std.specs.Prelude.{string_bytes}
-use Rattle.run_app.specs.Commands.{way_of}
-use Rattle.run_app.proofs.ModeLemmas.{few_blocks}
+use Rattle.std.proofs.Common.{map, string_bytes}
+use Rattle.run_app.{specs.Commands.way_of, proofs.ModeLemmas.few_blocks}
 use Rattle.run_app.proofs.CommandLemmas.{complete_unasked, ends_unasked, is_of_command, is_of_no_command, kept_unasked, read_unasked, unkept_unasked, write_unasked}
-use Rattle.run_app.proofs.CountLemmas.{moved_keep, moved_read, moved_write}
-use Rattle.run_app.proofs.RejoinLemmas.{runs_go_on}
-use Rattle.run_app.proofs.SoundLemmas.{lines_replayed}
-use Rattle.run_app.proofs.StopLemmas.{stops_unbegun}
-use Rattle.run_app.proofs.WayLemmas.{untroubled_way, way_commits, way_stops}
-use Rattle.run_app.proofs.WholeLemmas.{answers_replayed}
+use Rattle.run_app.proofs.{CountLemmas.{moved_keep, moved_read, moved_write}, RejoinLemmas.runs_go_on}
+use Rattle.run_app.proofs.{SoundLemmas.lines_replayed, StopLemmas.stops_unbegun}
+use Rattle.run_app.proofs.{WayLemmas.{untroubled_way, way_commits, way_stops}, WholeLemmas.answers_replayed}
 use Rattle.run_app.proofs.running.run.Goals as goal
 
 pub perform-requires-clause-few : goal.perform-requires-clause-few

@@ -1,11 +1,8 @@
-use Rattle.std.proofs.Common.{rules, arith, refl, ◌≡◌, ◌∙◌, ◌≤◌, ◌<◌, ◌+◌, ℕ, List, length, take, ◌⊎◌, inl, inr, ◌≢◌, slice_index_or}
-use Rattle.std.proofs.lemmas.List.{length-take}
-use Rattle.run_app.proofs.KeepLemmas.{left_of}
-use Rattle.run_app.proofs.RunLemmas.{fed_number}
+use Rattle.std.proofs.Common.{rules, arith, refl, ◌≡◌, ◌∙◌, ◌≤◌, ◌<◌, ◌+◌, ℕ, List, length, take, ◌⊎◌, inl, inr, ◌≢◌, slice_index_or, length-take}
+use Rattle.run_app.proofs.{KeepLemmas.left_of, RunLemmas.fed_number}
 use Rattle.run_app.proofs.DriveLemmas.{begun_by, stands_first, read_ends, feed_ends, goes_on, end_ends, long_ends, pass_ends, first_of, byte_or}
-use Rattle.run_app.specs.Outcome.{most_bytes}
-use Rattle.run_app.specs.Machine.{longest}
 use Rattle.run_app.proofs.running.take_all.Goals.{else-piece-ne10-via-then-piece-ne10+else-len-eq-LONGEST, else-piece-ne10-via-else-piece-ne10}
+use Rattle.run_app.specs.{Outcome.most_bytes, Machine.longest}
 use Rattle.run_app.proofs.running.take_all.Goals as goal
 
 one_is : (n : ℕ) → n ≤ 1 → (n ≡ 0 → ⊥) → n ≡ 1

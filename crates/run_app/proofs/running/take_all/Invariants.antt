@@ -1,8 +1,5 @@
 use Rattle.std.proofs.Common.{◌≤◌, ◌+◌, ◌-◌, ◌≡◌, length}
-use Rattle.run_app.specs.Kept.{Began, Keeping}
-use Rattle.run_app.specs.Machine.{longest, Standing}
-use Rattle.run_app.specs.Outcome.{most_bytes}
-use Rattle.run_app.specs.Parts.{Stands}
+use Rattle.run_app.specs.{Kept.{Began, Keeping}, Machine.{longest, Standing}, Outcome.most_bytes, Parts.Stands}
 use Rattle.run_app.proofs.running.take_all.Given as goal
 
 abbrev pub decreases-loop-taken : goal.decreases-loop-taken

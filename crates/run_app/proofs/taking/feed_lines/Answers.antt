@@ -1,6 +1,5 @@
 use Rattle.std.proofs.Common.{◌∙◌, arith, refl, Ok}
-use Rattle.run_app.specs.Parts.{HasNoEnd}
-use Rattle.run_app.proofs.ModeLemmas.{quiet_at}
+use Rattle.run_app.{specs.Parts.HasNoEnd, proofs.ModeLemmas.quiet_at}
 use Rattle.run_app.proofs.TakingLemmas.{extend_may, extend_unwritten, piece_end, piece_end_stops, piece_first, piece_line, piece_number, piece_stops}
 use Rattle.run_app.proofs.taking.feed_lines.Goals as goal
 

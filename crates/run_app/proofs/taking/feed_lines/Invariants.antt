@@ -1,6 +1,5 @@
 use Rattle.std.proofs.Common.{◌≡◌, ◌≤◌, List, ℕ, Option, length}
-use Rattle.run_app.specs.Taking.{IsFed}
-use Rattle.run_app.proofs.TakingLemmas.{IsFedTo}
+use Rattle.run_app.{specs.Taking.IsFed, proofs.TakingLemmas.IsFedTo}
 use Rattle.run_app.proofs.taking.feed_lines.Given as goal
 
 abbrev pub invariant-loop-end : goal.invariant-loop-end

@@ -1,7 +1,5 @@
-use Rattle.std.proofs.Common.{rules, arith, refl, ◌≡◌, ◌≢◌, ◌∙◌, ◌≤◌, ◌<◌, ◌+◌, ◌⊎◌, inl, inr, ℕ, List, [], ◌++◌, length, length-append, take, slice_index_or}
-use Rattle.std.proofs.lemmas.List.{length-take, length-take-le}
-use Rattle.run_app.specs.Machine.{longest}
-use Rattle.run_app.specs.Outcome.{most_bytes}
+use Rattle.std.proofs.Common.{rules, arith, refl, ◌≡◌, ◌≢◌, ◌∙◌, ◌≤◌, ◌<◌, ◌+◌, ◌⊎◌, inl, inr, ℕ, List, [], ◌++◌, length, length-append, take, slice_index_or, length-take, length-take-le}
+use Rattle.run_app.specs.{Machine.longest, Outcome.most_bytes}
 use Rattle.run_app.proofs.DriveLemmas.{byte_or, first_of, told_first, told_more}
 use Rattle.run_app.proofs.TakingLemmas.{all_taken, fed_none, fed_number, over_input, over_long, part_taken, stop_may_end, stopped, unread}
 use Rattle.run_app.proofs.taking.take_lines.Goals.{else-piece-ne10-via-then-piece-ne10+else-len-eq-LONGEST, else-piece-ne10-via-else-piece-ne10}

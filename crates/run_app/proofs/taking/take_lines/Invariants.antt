@@ -1,7 +1,5 @@
 use Rattle.std.proofs.Common.{◌≡◌, ◌≤◌, ◌-◌, ℕ, List, length}
-use Rattle.run_app.specs.Outcome.{most_bytes}
-use Rattle.run_app.specs.Taking.{IsFed}
-use Rattle.run_app.specs.Told.{Told}
+use Rattle.run_app.specs.{Outcome.most_bytes, Taking.IsFed, Told.Told}
 use Rattle.run_app.proofs.taking.take_lines.Given as goal
 
 abbrev pub decreases-loop-taken : goal.decreases-loop-taken

@@ -1,6 +1,5 @@
 use Rattle.std.proofs.Common.{◌≡◌, ◌-◌}
-use Rattle.run_generated.specs.Drawing.{in_turn, numbers_from}
-use Rattle.run_generated.proofs.DrawLemmas.{behind}
+use Rattle.run_generated.{specs.Drawing.{in_turn, numbers_from}, proofs.DrawLemmas.behind}
 use Rattle.run_generated.proofs.block.in_turn.Given as goal
 
 abbrev pub invariant-loop-number : goal.invariant-loop-number

@@ -1,6 +1,5 @@
 use Rattle.std.proofs.Common.{◌≡◌, ◌-◌, ap, subst, IfOk}
-use Rattle.run_generated.specs.Drawing.{in_turn, numbers_from}
-use Rattle.run_generated.specs.Input.{block_drawn}
+use Rattle.run_generated.specs.{Drawing.{in_turn, numbers_from}, Input.block_drawn}
 use Rattle.run_generated.proofs.DrawLemmas.{all_passed, one_passed}
 use Rattle.run_generated.proofs.by_place.block_at.Goals as goal
 

@@ -1,6 +1,5 @@
 use Rattle.std.proofs.Common.{◌≡◌, ◌-◌}
-use Rattle.run_generated.specs.Drawing.{in_turn, numbers_from}
-use Rattle.run_generated.specs.Input.{block_drawn, state_behind}
+use Rattle.run_generated.specs.{Drawing.{in_turn, numbers_from}, Input.{block_drawn, state_behind}}
 use Rattle.run_generated.proofs.by_place.block_at.Given as goal
 
 abbrev pub invariant-loop-before : goal.invariant-loop-before

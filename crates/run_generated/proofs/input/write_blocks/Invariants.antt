@@ -1,7 +1,5 @@
 use Rattle.std.proofs.Common.{◌≡◌}
-use Rattle.run_generated.specs.Input.{blocks_of}
-use Rattle.run_generated.specs.Writing.{blocks_text}
-use Rattle.run_generated.proofs.WritingLemmas.{IsOnTheWay}
+use Rattle.run_generated.{specs.{Input.blocks_of, Writing.blocks_text}, proofs.WritingLemmas.IsOnTheWay}
 use Rattle.run_generated.proofs.input.write_blocks.Given as goal
 
 abbrev pub invariant-loop-before : goal.invariant-loop-before

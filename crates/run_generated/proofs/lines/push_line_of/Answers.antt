@@ -1,7 +1,6 @@
 use Rattle.std.proofs.Common.{◌≡◌, ◌∙◌, ap, [], ◌∷◌, ◌++◌}
 use Rattle.json.specs.Print.{print}
-use Rattle.line_json.specs.Told.{data_tokens}
-use Rattle.line_json.proofs.WritingLemmas.{line_written}
+use Rattle.line_json.{specs.Told.data_tokens, proofs.WritingLemmas.line_written}
 use Rattle.run_generated.proofs.lines.push_line_of.Goals as goal
 
 pub returns-clause-ok : goal.returns-clause-ok

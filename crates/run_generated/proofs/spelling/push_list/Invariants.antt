@@ -1,6 +1,5 @@
 use Rattle.std.proofs.Common.{◌≡◌, ◌++◌, drop}
-use Rattle.line_json.specs.Told.{data_tokens}
-use Rattle.line_json.proofs.WritingLemmas.{values_tokens}
+use Rattle.line_json.{specs.Told.data_tokens, proofs.WritingLemmas.values_tokens}
 use Rattle.run_generated.specs.Lines.{list_data}
 use Rattle.run_generated.proofs.spelling.push_list.Given as goal
 

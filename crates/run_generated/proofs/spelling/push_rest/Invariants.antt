@@ -1,6 +1,5 @@
 use Rattle.std.proofs.Common.{◌≡◌, ◌++◌, drop}
-use Rattle.line_json.specs.Told.{listed}
-use Rattle.line_json.proofs.WritingLemmas.{rest_tokens}
+use Rattle.line_json.{specs.Told.listed, proofs.WritingLemmas.rest_tokens}
 use Rattle.run_generated.proofs.spelling.push_rest.Given as goal
 
 abbrev pub invariant-loop-name : goal.invariant-loop-name

@@ -1,5 +1,4 @@
-use Rattle.std.proofs.Common.{◌≡◌, take}
-use Rattle.std.specs.Prelude.{sum_by}
+use Rattle.std.proofs.Common.{◌≡◌, take, sum_by}
 use Rattle.run_trial.specs.Summary.{burned_by}
 use Rattle.run_trial.proofs.counting.burned_by_all.Given as goal
 

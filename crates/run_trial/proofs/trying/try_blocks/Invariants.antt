@@ -1,6 +1,5 @@
 use Rattle.std.proofs.Common.{◌≡◌, Ok}
-use Rattle.rule_machine.specs.GenesisState.{Start, chain_started}
-use Rattle.rule_machine.specs.Machine.{run_of}
+use Rattle.rule_machine.specs.{GenesisState.{Start, chain_started}, Machine.run_of}
 use Rattle.chain_modules.specs.Kept.{StandsFor}
 use Rattle.run_generated.specs.Input.{blocks_of, first_genesis}
 use Rattle.run_trial.specs.Trying.{IsOnTheWay}

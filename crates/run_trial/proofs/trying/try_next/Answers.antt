@@ -1,5 +1,4 @@
-use Rattle.std.proofs.Common.{sym, subst}
-use Rattle.std.specs.Prelude.{IfErr, OnOk}
+use Rattle.std.proofs.Common.{sym, subst, IfErr, OnOk}
 use Rattle.rule_machine.specs.Machine.{step}
 use Rattle.run_trial.specs.Trying.{AddsStep, HasRoomFor, IsFaultOf}
 use Rattle.run_trial.proofs.trying.try_next.Goals as goal

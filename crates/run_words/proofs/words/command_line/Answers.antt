@@ -1,7 +1,6 @@
 use Rattle.std.proofs.Common.{rules, ◌≡◌, ◌∙◌, ap, ap₂, codes}
 use Rattle.std.proofs.lemmas.Result.{IfOk-weaker}
-use Rattle.clap.specs.Walk.{rule_of}
-use Rattle.clap.specs.Simple.{app_of, app_of_fields, new_app, new_rule, with_rule}
+use Rattle.clap.specs.{Walk.rule_of, Simple.{app_of, app_of_fields, new_app, new_rule, with_rule}}
 use Rattle.run_words.specs.Line.{without_own_name}
 use Rattle.run_words.proofs.words.command_line.Goals as goal
 

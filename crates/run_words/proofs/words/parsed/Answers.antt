@@ -1,7 +1,5 @@
 use Rattle.std.proofs.Common.{◌≡◌, ◌∙◌, ap, sym, codes, map, string_bytes, true}
-use Rattle.clap.specs.Simple.{app_of, is_simple}
-use Rattle.clap.specs.Matches.{found_of}
-use Rattle.clap.specs.Takes.{takes}
+use Rattle.clap.specs.{Simple.{app_of, is_simple}, Matches.found_of, Takes.takes}
 use Rattle.run_words.proofs.ClapLemmas.{any_of_texts, few_texts, found_at, six_is_simple, words_read}
 use Rattle.run_words.proofs.words.parsed.Goals as goal
 

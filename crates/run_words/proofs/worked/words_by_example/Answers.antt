@@ -1,9 +1,7 @@
 use Rattle.std.proofs.Common.{◌≡◌, refl, ℕ, List, Ok, codes}
-use Rattle.base_bech32.specs.Reading.{unspelled}
-use Rattle.base_bech32.proofs.OnLiterals.{spellings_on_literals}
+use Rattle.base_bech32.{specs.Reading.unspelled, proofs.OnLiterals.spellings_on_literals}
 use Rattle.base_types.specs.declared.account.Module.TheVariants as holder
-use Rattle.base_types.specs.Accounts.{account_from}
-use Rattle.base_types.specs.Modules.{module_bytes}
+use Rattle.base_types.specs.{Accounts.account_from, Modules.module_bytes}
 use Rattle.line_json.specs.Addresses.{account_prefix, cons_prefix, operator_prefix}
 use Rattle.line_report.specs.declared.question.Query.TheVariants as question
 use Rattle.run_words.specs.declared.mode.Mode.TheVariants.{Query}

@@ -1,7 +1,6 @@
 use Rattle.std.proofs.Common.{◌∙◌, ◌++◌, Bool, ap, map}
 use Rattle.base_io.specs.Changes.{pair_of}
-use Rattle.store_history.specs.Commits.{put_base, removal, seen}
-use Rattle.store_history.proofs.ListLemmas.{three_parts}
+use Rattle.store_history.{specs.Commits.{put_base, removal, seen}, proofs.ListLemmas.three_parts}
 use Rattle.store_history.proofs.changes.anew.Goals as goal
 
 pub returns : goal.returns

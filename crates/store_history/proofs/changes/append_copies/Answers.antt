@@ -1,7 +1,6 @@
 use Rattle.std.proofs.Common.{◌∙◌, ◌+◌, ◌++◌, List, ap, drop, map, sym}
 use Rattle.base_io.specs.declared.keeper.Change.{Change}
-use Rattle.store_history.specs.Commits.{seen}
-use Rattle.store_history.proofs.ListLemmas.{copy_end, copy_next}
+use Rattle.store_history.{specs.Commits.seen, proofs.ListLemmas.{copy_end, copy_next}}
 use Rattle.store_history.proofs.changes.append_copies.Goals as goal
 
 pub loop-change-preserved : goal.loop-change-preserved

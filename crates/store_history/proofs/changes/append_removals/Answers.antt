@@ -1,8 +1,6 @@
 use Rattle.std.proofs.Common.{◌∙◌, ◌+◌, ◌++◌, List, ap, drop, map, sym}
-use Rattle.base_io.specs.declared.keeper.Change.{Change}
-use Rattle.base_io.specs.Changes.{pair_of}
-use Rattle.store_history.specs.Commits.{removal, seen}
-use Rattle.store_history.proofs.ListLemmas.{removal_end, removal_next}
+use Rattle.base_io.specs.{declared.keeper.Change.Change, Changes.pair_of}
+use Rattle.store_history.{specs.Commits.{removal, seen}, proofs.ListLemmas.{removal_end, removal_next}}
 use Rattle.store_history.proofs.changes.append_removals.Goals as goal
 
 pub loop-row-preserved : goal.loop-row-preserved

@@ -1,6 +1,5 @@
 use Rattle.std.proofs.Common.{◌∙◌, ◌++◌, Bool, ap, map}
-use Rattle.store_history.specs.Commits.{note, put_base, seen}
-use Rattle.store_history.proofs.ListLemmas.{three_parts}
+use Rattle.store_history.{specs.Commits.{note, put_base, seen}, proofs.ListLemmas.three_parts}
 use Rattle.store_history.proofs.changes.going_on.Goals as goal
 
 pub returns : goal.returns

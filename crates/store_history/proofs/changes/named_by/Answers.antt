@@ -1,5 +1,4 @@
-use Rattle.std.proofs.Common.{◌∙◌, ap}
-use Rattle.std.specs.Prelude.{option_and_then}
+use Rattle.std.proofs.Common.{◌∙◌, ap, option_and_then}
 use Rattle.store_history.specs.History.{height_in}
 use Rattle.store_history.proofs.changes.named_by.Goals as goal
 

@@ -1,11 +1,7 @@
 use Rattle.std.proofs.Common.{◌≡◌, ◌∙◌, Err, List, ap, filter, map, rules, subst, sym}
 use Rattle.base_io.specs.declared.keeper.KeepFault.TheVariants as keep
-use Rattle.base_io.specs.declared.keeper.Row.{Row}
-use Rattle.base_io.specs.Rows.{Pair}
-use Rattle.base_io.specs.Changes.{Rises, pair_of}
-use Rattle.store_history.specs.Commits.{is_kept, seen}
-use Rattle.store_history.specs.Held.{shown}
-use Rattle.store_history.specs.History.{stored_base, visible}
+use Rattle.base_io.specs.{declared.keeper.Row.Row, Rows.Pair, Changes.{Rises, pair_of}}
+use Rattle.store_history.specs.{Commits.{is_kept, seen}, Held.shown, History.{stored_base, visible}}
 use Rattle.store_history.proofs.KeepingLemmas.{commits_by, commits_later, commits_loaded, told_at, told_back}
 use Rattle.store_history.proofs.ListLemmas.{new_list, new_list_changes, new_list_distinct, new_list_made}
 use Rattle.store_history.proofs.LoadLemmas.{told_list}

@@ -1,9 +1,7 @@
 use Rattle.std.proofs.Common.{◌≡◌, ◌∙◌, Err, ap, map, rules}
 use Rattle.base_io.specs.declared.keeper.KeepFault.TheVariants as keep
 use Rattle.base_io.specs.Changes.{Rises}
-use Rattle.store_history.specs.Commits.{seen}
-use Rattle.store_history.specs.Held.{shown}
-use Rattle.store_history.specs.History.{IsHistory, stored_base, visible}
+use Rattle.store_history.specs.{Commits.seen, Held.shown, History.{IsHistory, stored_base, visible}}
 use Rattle.store_history.proofs.KeepingLemmas.{commits_by, commits_not, told_at}
 use Rattle.store_history.proofs.ListLemmas.{on_list_changes, on_list_distinct, on_list_made}
 use Rattle.store_history.proofs.committing.commit_on.Goals as goal

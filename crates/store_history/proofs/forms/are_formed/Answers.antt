@@ -1,9 +1,7 @@
 use Rattle.std.proofs.Common.{List, arith, map, rules, subst, sym, tests}
 use Rattle.std.specs.List.{AllByRecursion}
-use Rattle.base_io.specs.declared.keeper.Row.{Row}
-use Rattle.base_io.specs.Changes.{pair_of}
-use Rattle.store_history.specs.History.{IsFormed}
-use Rattle.store_history.proofs.ReadingLemmas.{drop_end, row_next}
+use Rattle.base_io.specs.{declared.keeper.Row.Row, Changes.pair_of}
+use Rattle.store_history.{specs.History.IsFormed, proofs.ReadingLemmas.{drop_end, row_next}}
 use Rattle.store_history.proofs.forms.are_formed.Goals as goal
 
 pub loop-row-preserved : goal.loop-row-preserved

@@ -1,7 +1,6 @@
 use Rattle.std.proofs.Common.{◌∙◌, ap, rules, sym, tests}
 use Rattle.base_io.specs.Changes.{pair_of}
-use Rattle.store_history.specs.History.{was}
-use Rattle.store_history.proofs.ReadLemmas.{is_kept_by, kept_between, kept_shown}
+use Rattle.store_history.{specs.History.was, proofs.ReadLemmas.{is_kept_by, kept_between, kept_shown}}
 use Rattle.store_history.proofs.forms.is_kept.Goals as goal
 
 pub returns-in-None : goal.returns-in-None

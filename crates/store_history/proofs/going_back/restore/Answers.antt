@@ -1,8 +1,6 @@
 use Rattle.std.proofs.Common.{◌∙◌, List, ap, sym, ℕ}
 use Rattle.base_io.specs.Changes.{pair_of}
-use Rattle.store_history.specs.Commits.{made_by}
-use Rattle.store_history.specs.History.{was}
-use Rattle.store_history.proofs.KeepingLemmas.{on_ok}
+use Rattle.store_history.{specs.{Commits.made_by, History.was}, proofs.KeepingLemmas.on_ok}
 use Rattle.store_history.proofs.RestoreLemmas.{restored_high, restored_low, restored_other}
 use Rattle.store_history.proofs.going_back.restore.Goals as goal
 

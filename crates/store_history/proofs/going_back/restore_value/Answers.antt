@@ -1,6 +1,5 @@
 use Rattle.std.proofs.Common.{◌∙◌, List, Option, ap, ℕ}
-use Rattle.store_history.specs.Commits.{made_by}
-use Rattle.store_history.proofs.KeepingLemmas.{on_ok}
+use Rattle.store_history.{specs.Commits.made_by, proofs.KeepingLemmas.on_ok}
 use Rattle.store_history.proofs.going_back.restore_value.Goals as goal
 
 pub returns-in-Some : goal.returns-in-Some

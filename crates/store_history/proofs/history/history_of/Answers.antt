@@ -1,6 +1,5 @@
 use Rattle.std.proofs.Common.{◌∙◌, ◌+◌, List, ap, arith, drop, map, rules, sym}
-use Rattle.base_io.specs.declared.keeper.Row.{Row}
-use Rattle.base_io.specs.Changes.{pair_of}
+use Rattle.base_io.specs.{declared.keeper.Row.Row, Changes.pair_of}
 use Rattle.store_history.specs.History.{is_visible}
 use Rattle.store_history.proofs.ReadingLemmas.{drop_end, all_bases, all_pass, all_with, base_read, row_next}
 use Rattle.store_history.proofs.history.history_of.Goals as goal

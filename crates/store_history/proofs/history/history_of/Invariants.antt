@@ -1,7 +1,6 @@
 use Rattle.std.proofs.Common.{◌≡◌, [], None, drop, map}
 use Rattle.base_io.specs.Changes.{pair_of}
-use Rattle.store_history.specs.History.{is_visible}
-use Rattle.store_history.proofs.ReadingLemmas.{all_bases, all_with}
+use Rattle.store_history.{specs.History.is_visible, proofs.ReadingLemmas.{all_bases, all_with}}
 use Rattle.store_history.proofs.history.history_of.Given as goal
 
 abbrev pub invariant-loop-row : goal.invariant-loop-row

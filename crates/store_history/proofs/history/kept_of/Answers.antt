@@ -1,8 +1,6 @@
 use Rattle.std.proofs.Common.{◌≡◌, ◌∙◌, ◌+◌, List, ap, arith, drop, filter, map, rules, subst, sym, true}
 use Rattle.std.specs.List.{AllByRecursion}
-use Rattle.base_io.specs.declared.keeper.Row.{Row}
-use Rattle.base_io.specs.Rows.{Pair}
-use Rattle.base_io.specs.Changes.{Rises, pair_of}
+use Rattle.base_io.specs.{declared.keeper.Row.Row, Rows.Pair, Changes.{Rises, pair_of}}
 use Rattle.store_history.specs.Commits.{is_kept}
 use Rattle.store_history.proofs.ReadingLemmas.{drop_end, all_pass, all_with, kept_with_all, row_next}
 use Rattle.store_history.proofs.TreeLemmas.{ok_by}

@@ -1,8 +1,7 @@
 use Rattle.std.proofs.Common.{◌≡◌, [], drop, map, true}
 use Rattle.std.specs.List.{AllByRecursion}
 use Rattle.base_io.specs.Changes.{pair_of}
-use Rattle.store_history.specs.Commits.{is_kept}
-use Rattle.store_history.proofs.ReadingLemmas.{all_with}
+use Rattle.store_history.{specs.Commits.is_kept, proofs.ReadingLemmas.all_with}
 use Rattle.store_history.proofs.history.kept_of.Given as goal
 
 abbrev pub invariant-loop-row : goal.invariant-loop-row

@@ -1,6 +1,5 @@
 -- The laws, from their lemmas.
-use Rattle.store_history.proofs.PastLemmas.{is_one, what_stood}
-use Rattle.store_history.proofs.TakenLemmas.{keeps_history}
+use Rattle.store_history.proofs.{PastLemmas.{is_one, what_stood}, TakenLemmas.keeps_history}
 use Rattle.store_history.proofs.laws.past_rows_are_what_stood.Goals as goal
 
 pub returns-clause-kept : goal.returns-clause-kept

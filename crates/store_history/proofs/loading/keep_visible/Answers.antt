@@ -1,9 +1,7 @@
 use Rattle.std.proofs.Common.{◌∙◌, ap, map, rules}
 use Rattle.std.proofs.lemmas.List.Elements.{filter_from_retain}
-use Rattle.base_io.specs.declared.keeper.Row.{Row}
-use Rattle.base_io.specs.Changes.{pair_of}
-use Rattle.store_history.specs.History.{is_visible}
-use Rattle.store_history.proofs.ReadLemmas.{filter_pairs}
+use Rattle.base_io.specs.{declared.keeper.Row.Row, Changes.pair_of}
+use Rattle.store_history.{specs.History.is_visible, proofs.ReadLemmas.filter_pairs}
 use Rattle.store_history.proofs.loading.keep_visible.Goals as goal
 
 pub returns : goal.returns

@@ -1,9 +1,6 @@
 use Rattle.std.proofs.Common.{◌∙◌, List, ap, map}
-use Rattle.base_io.specs.declared.keeper.Row.{Row}
-use Rattle.base_io.specs.Changes.{pair_of}
-use Rattle.store_history.specs.History.{visible}
-use Rattle.store_history.proofs.LoadLemmas.{told_visible}
-use Rattle.store_history.proofs.ReadLemmas.{none_mapped}
+use Rattle.base_io.specs.{declared.keeper.Row.Row, Changes.pair_of}
+use Rattle.store_history.{specs.History.visible, proofs.{LoadLemmas.told_visible, ReadLemmas.none_mapped}}
 use Rattle.store_history.proofs.loading.load_visible.Goals as goal
 
 pub returns-clause-rows : goal.returns-clause-rows

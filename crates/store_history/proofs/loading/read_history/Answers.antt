@@ -1,6 +1,5 @@
 use Rattle.std.proofs.Common.{◌∙◌, List, Err, ap, map}
-use Rattle.base_io.specs.declared.keeper.Row.{Row}
-use Rattle.base_io.specs.Changes.{pair_of}
+use Rattle.base_io.specs.{declared.keeper.Row.Row, Changes.pair_of}
 use Rattle.store_history.specs.History.{IsHistory}
 use Rattle.store_history.proofs.LoadLemmas.{if_ok_both, knows_from, never_bad, not_failed, not_loaded, open_cause, open_not_bad, open_quiet, told_list, told_so, were_loaded}
 use Rattle.store_history.proofs.KeepingLemmas.{on_ok}

@@ -1,6 +1,5 @@
 use Rattle.std.proofs.Common.{rules, tests}
-use Rattle.std.proofs.lemmas.Iterator.{YieldsList-from_map}
-use Rattle.std.proofs.lemmas.Iterator.Adapters.{items_from_extend}
+use Rattle.std.proofs.lemmas.Iterator.{YieldsList-from_map, Adapters.items_from_extend}
 use Rattle.std.proofs.lemmas.Iterator.Consumers.{YieldsList-at, YieldsList-from_rest}
 use Rattle.store_history.specs.Held.{row_in}
 use Rattle.store_history.proofs.visible.rows_of.Goals as goal

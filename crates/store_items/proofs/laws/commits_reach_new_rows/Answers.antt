@@ -1,5 +1,4 @@
-use Rattle.store_items.proofs.Ordinary.{ordinary}
-use Rattle.store_items.proofs.Reached.{all_change, are_distinct, rows_reached}
+use Rattle.store_items.proofs.{Ordinary.ordinary, Reached.{all_change, are_distinct, rows_reached}}
 use Rattle.store_items.proofs.laws.commits_reach_new_rows.Goals as goal
 
 pub returns-clause-distinct : goal.returns-clause-distinct

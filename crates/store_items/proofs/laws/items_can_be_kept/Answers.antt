@@ -1,5 +1,4 @@
-use Rattle.store_items.proofs.OwnKeys.{keys_once}
-use Rattle.store_items.proofs.Writing.{all_written, windows_short}
+use Rattle.store_items.proofs.{OwnKeys.keys_once, Writing.{all_written, windows_short}}
 use Rattle.store_items.proofs.laws.items_can_be_kept.Goals as goal
 
 pub returns-clause-once : goal.returns-clause-once

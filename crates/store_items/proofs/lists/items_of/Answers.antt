@@ -1,10 +1,8 @@
 use Rattle.std.proofs.Common.{All, List, subst, sym}
-use Rattle.std.proofs.lemmas.Result.{err_from_is_err_and}
-use Rattle.std.proofs.lemmas.List.Elements.{All-push}
+use Rattle.std.proofs.lemmas.{Result.err_from_is_err_and, List.Elements.All-push}
 use Rattle.base_io.specs.Changes.{pair_of}
 use Rattle.base_roles.specs.declared.items.Item.{Item}
-use Rattle.store_rows.specs.Rows.{row_in}
-use Rattle.store_rows.specs.Spelled.{HasRow}
+use Rattle.store_rows.specs.{Rows.row_in, Spelled.HasRow}
 use Rattle.store_items.proofs.Loops.{no_items, one_more, same_fault}
 use Rattle.store_items.proofs.lists.items_of.Goals as goal
 

@@ -1,7 +1,6 @@
 use Rattle.std.proofs.Common.{◌≡◌, All, map, take}
 use Rattle.base_io.specs.Changes.{pair_of}
-use Rattle.store_rows.specs.Rows.{row_in}
-use Rattle.store_rows.specs.Spelled.{HasRow}
+use Rattle.store_rows.specs.{Rows.row_in, Spelled.HasRow}
 use Rattle.store_items.proofs.lists.items_of.Given as goal
 
 abbrev pub invariant-loop-row : goal.invariant-loop-row

@@ -1,7 +1,6 @@
 use Rattle.base_io.specs.declared.keeper.Change.TheVariants.{Put}
 use Rattle.store_rows.specs.Spelled.{HasRow}
-use Rattle.store_items.specs.Making.{change_seen, item_put}
-use Rattle.store_items.proofs.Loops.{all_more, one_more, put_seen}
+use Rattle.store_items.{specs.Making.{change_seen, item_put}, proofs.Loops.{all_more, one_more, put_seen}}
 use Rattle.store_items.proofs.lists.puts_of.Goals as goal
 
 pub loop-item-preserved : goal.loop-item-preserved

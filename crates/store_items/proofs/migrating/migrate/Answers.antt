@@ -1,7 +1,6 @@
 use Rattle.std.proofs.lemmas.Result.{err_from_is_err_and}
 use Rattle.store_rows.specs.declared.format.Format.TheVariants.{First}
-use Rattle.store_items.proofs.Loops.{item_at}
-use Rattle.store_items.proofs.MigrationLemmas.{all_on, is_migration, listed_taken, one_on}
+use Rattle.store_items.proofs.{Loops.item_at, MigrationLemmas.{all_on, is_migration, listed_taken, one_on}}
 use Rattle.store_items.proofs.migrating.migrate.Goals as goal
 
 pub returns-in_err-push_between-clause-fault : goal.returns-in_err-push_between-clause-fault

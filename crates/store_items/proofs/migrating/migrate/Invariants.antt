@@ -1,12 +1,8 @@
-use Rattle.std.proofs.Common.{◌≡◌, All, List, map, take}
-use Rattle.std.specs.List.{flat_map}
+use Rattle.std.proofs.Common.{◌≡◌, All, List, map, take, flat_map}
 use Rattle.base_io.specs.Changes.{pair_of}
 use Rattle.base_roles.specs.declared.items.Item.{Item}
-use Rattle.store_rows.specs.declared.format.Format.TheVariants.{First}
-use Rattle.store_rows.specs.Rows.{row_in}
-use Rattle.store_rows.specs.Spelled.{HasRow}
-use Rattle.store_items.specs.Making.{change_seen}
-use Rattle.store_items.specs.Migrating.{change_between}
+use Rattle.store_rows.specs.{declared.format.Format.TheVariants.First, Rows.row_in, Spelled.HasRow}
+use Rattle.store_items.specs.{Making.change_seen, Migrating.change_between}
 use Rattle.store_items.proofs.migrating.migrate.Given as goal
 
 abbrev pub invariant-loop-row : goal.invariant-loop-row

@@ -1,6 +1,5 @@
-use Rattle.std.proofs.Common.{◌∙◌, ap, sym}
+use Rattle.std.proofs.Common.{◌∙◌, ap, sym, is_eq}
 use Rattle.std.proofs.lemmas.Result.{err_from_is_err_and}
-use Rattle.std.specs.Ordering.{is_eq}
 use Rattle.store_items.proofs.MigrationLemmas.{pushed_none, pushed_one, refused_never}
 use Rattle.store_items.proofs.migrating.push_between.Goals as goal
 

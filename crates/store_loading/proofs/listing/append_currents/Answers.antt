@@ -1,6 +1,5 @@
 use Rattle.std.proofs.Common.{◌∙◌, rules, tests}
-use Rattle.std.proofs.lemmas.Iterator.{YieldsList-from_map}
-use Rattle.std.proofs.lemmas.Iterator.Adapters.{items_from_extend}
+use Rattle.std.proofs.lemmas.Iterator.{YieldsList-from_map, Adapters.items_from_extend}
 use Rattle.std.proofs.lemmas.Iterator.Consumers.{YieldsList-at, YieldsList-from_rest}
 use Rattle.base_roles.specs.declared.items.Item.TheVariants as item
 use Rattle.store_loading.proofs.listing.append_currents.Goals as goal

@@ -1,8 +1,7 @@
 use Rattle.std.proofs.Common.{◌∙◌, sym, ap, subst}
 use Rattle.chain_modules.specs.Kept.{kept_of}
 use Rattle.store_records.specs.Plain.{seen}
-use Rattle.store_loading.specs.Loaded.{HaveOwnKeys, HoldItems}
-use Rattle.store_loading.proofs.LoadedLemmas.{are_loaded, new_here, own_keys}
+use Rattle.store_loading.{specs.Loaded.{HaveOwnKeys, HoldItems}, proofs.LoadedLemmas.{are_loaded, new_here, own_keys}}
 use Rattle.store_loading.proofs.modules.fill.Goals as goal
 
 pub load_modules-requires : goal.load_modules-requires

@@ -1,6 +1,5 @@
 use Rattle.std.proofs.Common.{◌∙◌, Some, ap}
-use Rattle.store_records.specs.Gathering.{also, gathered_seen}
-use Rattle.store_records.proofs.GatherLemmas.{gathered-more}
+use Rattle.store_records.{specs.Gathering.{also, gathered_seen}, proofs.GatherLemmas.gathered-more}
 use Rattle.store_records.proofs.gathering.take_all.Goals as goal
 
 pub loop-item-preserved : goal.loop-item-preserved

@@ -1,6 +1,5 @@
 use Rattle.std.proofs.Common.{◌≡◌, subst, IfOk}
-use Rattle.store_records.specs.Gathering.{some_if}
-use Rattle.store_records.proofs.KeyLemmas.{balance_new}
+use Rattle.store_records.{specs.Gathering.some_if, proofs.KeyLemmas.balance_new}
 use Rattle.store_records.proofs.places.put_balance.Goals as goal
 
 pub returns : goal.returns

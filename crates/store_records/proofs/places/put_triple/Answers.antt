@@ -1,6 +1,5 @@
 use Rattle.std.proofs.Common.{◌≡◌, subst, IfOk}
-use Rattle.store_records.specs.Gathering.{some_if}
-use Rattle.store_records.proofs.KeyLemmas.{triple_new}
+use Rattle.store_records.{specs.Gathering.some_if, proofs.KeyLemmas.triple_new}
 use Rattle.store_records.proofs.places.put_triple.Goals as goal
 
 pub returns : goal.returns

@@ -1,5 +1,4 @@
-use Rattle.store_items.proofs.Loops.{item_at}
-use Rattle.store_items.proofs.Members.{place_of}
+use Rattle.store_items.proofs.{Loops.item_at, Members.place_of}
 use Rattle.store_resuming.proofs.restoring.have_long_window.Goals as goal
 
 pub returns-then-has_long_window : goal.returns-then-has_long_window

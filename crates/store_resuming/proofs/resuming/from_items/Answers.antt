@@ -1,5 +1,4 @@
-use Rattle.std.proofs.Common.{◌∙◌, ap}
-use Rattle.std.specs.Prelude.{option_map}
+use Rattle.std.proofs.Common.{◌∙◌, ap, option_map}
 use Rattle.store_records.specs.Plain.{seen}
 use Rattle.store_resuming.proofs.ResumeLemmas.{all_stand, ascend_so, fault_so, is_settled, is_unspent, no_facts, one_stands, refused_so}
 use Rattle.store_resuming.proofs.resuming.from_items.Goals as goal

@@ -1,5 +1,4 @@
-use Rattle.std.proofs.Common.{ℕ, ◌<◌, ◌^◌, List, sym, subst}
-use Rattle.std.specs.Prelude.{All}
+use Rattle.std.proofs.Common.{ℕ, ◌<◌, ◌^◌, List, sym, subst, All}
 use Rattle.std.proofs.lemmas.List.Elements.{All-cons}
 use Rattle.base_roles.specs.declared.entities.Validator.{Validator}
 use Rattle.store_resuming.proofs.telling.tell_all_shares.Goals as goal

@@ -1,6 +1,5 @@
 use Rattle.std.proofs.Common.{◌≡◌, length, map}
-use Rattle.store_rows.specs.Fields.{coin_seen}
-use Rattle.store_rows.specs.Reading.{is_in_order}
+use Rattle.store_rows.specs.{Fields.coin_seen, Reading.is_in_order}
 use Rattle.store_rows.proofs.coins.are_in_order.Given as goal
 
 abbrev pub invariant-coins : goal.invariant-coins

@@ -1,8 +1,6 @@
 use Rattle.std.proofs.Common.{◌≡◌, ◌++◌, ◌∷◌, [], map}
-use Rattle.std.proofs.lemmas.Result.{err_from_is_err_and}
-use Rattle.std.proofs.lemmas.List.{map_push}
-use Rattle.store_rows.specs.Fields.{coin_seen}
-use Rattle.store_rows.specs.Reading.{coin_at, each_at}
+use Rattle.std.proofs.lemmas.{Result.err_from_is_err_and, List.map_push}
+use Rattle.store_rows.specs.{Fields.coin_seen, Reading.{coin_at, each_at}}
 use Rattle.store_rows.proofs.LoopLemmas.{goes_on, fails_on, is_done}
 use Rattle.store_rows.proofs.coins.each_coin.Goals as goal
 

@@ -1,6 +1,5 @@
 use Rattle.std.proofs.Common.{◌≡◌, ◌-◌, map}
-use Rattle.store_rows.specs.Fields.{coin_seen}
-use Rattle.store_rows.specs.Reading.{coin_at, each_at, with_front}
+use Rattle.store_rows.specs.{Fields.coin_seen, Reading.{coin_at, each_at, with_front}}
 use Rattle.store_rows.proofs.coins.each_coin.Given as goal
 
 abbrev pub invariant-loop : goal.invariant-loop

@@ -1,5 +1,4 @@
-use Rattle.store_rows.proofs.KeyLemmas.{keys_one_to_one}
-use Rattle.store_rows.proofs.OrderLemmas.{keys_order}
+use Rattle.store_rows.proofs.{KeyLemmas.keys_one_to_one, OrderLemmas.keys_order}
 use Rattle.store_rows.proofs.WholeLemmas.{item_again, one_to_one, key_alone}
 use Rattle.store_rows.proofs.laws.rows_are_one_to_one.Goals as goal
 

@@ -1,6 +1,5 @@
 use Rattle.std.proofs.lemmas.Result.{err_from_is_err_and}
-use Rattle.store_rows.specs.Reading.{redelegation_at, each_at}
-use Rattle.store_rows.proofs.LoopLemmas.{goes_on, fails_on, is_done}
+use Rattle.store_rows.{specs.Reading.{redelegation_at, each_at}, proofs.LoopLemmas.{goes_on, fails_on, is_done}}
 use Rattle.store_rows.proofs.lists.each_redelegation.Goals as goal
 
 pub returns-in_err-entry : goal.returns-in_err-entry

@@ -1,7 +1,5 @@
-use Rattle.std.specs.Int.{w32}
-use Rattle.std.proofs.lemmas.Result.{err_from_is_err_and}
-use Rattle.store_rows.specs.Reading.{each_at, number_at}
-use Rattle.store_rows.proofs.LoopLemmas.{goes_on, fails_on, is_done}
+use Rattle.std.{specs.Int.w32, proofs.lemmas.Result.err_from_is_err_and}
+use Rattle.store_rows.{specs.Reading.{each_at, number_at}, proofs.LoopLemmas.{goes_on, fails_on, is_done}}
 use Rattle.store_rows.proofs.missed.each_place.Goals as goal
 
 pub returns-in_err-place : goal.returns-in_err-place

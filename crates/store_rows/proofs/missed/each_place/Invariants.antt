@@ -1,5 +1,4 @@
-use Rattle.std.proofs.Common.{◌≡◌, ◌-◌}
-use Rattle.std.specs.Int.{w32}
+use Rattle.std.proofs.Common.{◌≡◌, ◌-◌, w32}
 use Rattle.store_rows.specs.Reading.{each_at, number_at, with_front}
 use Rattle.store_rows.proofs.missed.each_place.Given as goal
 

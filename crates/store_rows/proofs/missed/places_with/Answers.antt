@@ -1,6 +1,5 @@
 use Rattle.std.proofs.Common.{ap, refl}
-use Rattle.store_rows.proofs.MissedLemmas.{all_built, none_built, one_built}
-use Rattle.store_rows.proofs.ReadsLemmas.{done}
+use Rattle.store_rows.proofs.{MissedLemmas.{all_built, none_built, one_built}, ReadsLemmas.done}
 use Rattle.store_rows.proofs.missed.places_with.Goals as goal
 
 pub loop-place-init : goal.loop-place-init

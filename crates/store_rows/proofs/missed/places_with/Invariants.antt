@@ -1,6 +1,5 @@
 use Rattle.std.proofs.Common.{drop}
-use Rattle.store_rows.specs.Reading.{places_with}
-use Rattle.store_rows.proofs.MissedLemmas.{IsBuilt}
+use Rattle.store_rows.{specs.Reading.places_with, proofs.MissedLemmas.IsBuilt}
 use Rattle.store_rows.proofs.missed.places_with.Given as goal
 
 abbrev pub invariant-loop-place : goal.invariant-loop-place

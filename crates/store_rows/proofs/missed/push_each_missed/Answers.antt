@@ -1,5 +1,4 @@
-use Rattle.std.proofs.Common.{◌∙◌, refl, sym}
-use Rattle.std.proofs.lemmas.List.{append-nil}
+use Rattle.std.proofs.Common.{◌∙◌, refl, sym, append-nil}
 use Rattle.store_rows.proofs.MissedLemmas.{all_written, one_written}
 use Rattle.store_rows.proofs.missed.push_each_missed.Goals as goal
 

@@ -1,5 +1,4 @@
-use Rattle.std.proofs.Common.{◌≡◌, ◌++◌, take}
-use Rattle.std.specs.List.{flat_map}
+use Rattle.std.proofs.Common.{◌≡◌, ◌++◌, take, flat_map}
 use Rattle.store_rows.specs.Fields.{four_bytes, missed_of}
 use Rattle.store_rows.proofs.missed.push_each_missed.Given as goal
 

@@ -1,5 +1,4 @@
-use Rattle.std.proofs.Common.{sym}
-use Rattle.std.proofs.lemmas.List.{append-nil}
+use Rattle.std.proofs.Common.{sym, append-nil}
 use Rattle.store_rows.proofs.MissedLemmas.{one_signed}
 use Rattle.store_rows.proofs.missed.push_signed.Goals as goal
 

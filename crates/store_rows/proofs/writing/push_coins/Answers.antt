@@ -1,8 +1,6 @@
-use Rattle.std.proofs.Common.{◌∙◌, ◌++◌, ap, subst, sym}
-use Rattle.std.proofs.lemmas.List.{append-nil}
+use Rattle.std.proofs.Common.{◌∙◌, ◌++◌, ap, subst, sym, append-nil}
 use Rattle.base_coins.specs.Coins.{Money}
-use Rattle.store_rows.specs.Fields.{coin_bytes, coin_seen, coins_bytes}
-use Rattle.store_rows.specs.Spelled.{AreCoins, IsName}
+use Rattle.store_rows.specs.{Fields.{coin_bytes, coin_seen, coins_bytes}, Spelled.{AreCoins, IsName}}
 use Rattle.store_rows.proofs.LoopLemmas.{each_done, each_more, each_seen, list_seen, writes_all, writes_on}
 use Rattle.store_rows.proofs.writing.push_coins.Goals as goal
 

@@ -1,7 +1,6 @@
-use Rattle.std.proofs.Common.{◌≡◌, ◌++◌, length, take}
-use Rattle.std.specs.List.{AllByRecursion, flat_map}
-use Rattle.store_rows.specs.Fields.{coin_bytes, coin_seen, four_bytes}
-use Rattle.store_rows.specs.Spelled.{IsName}
+use Rattle.std.proofs.Common.{◌≡◌, ◌++◌, length, take, flat_map}
+use Rattle.std.specs.List.{AllByRecursion}
+use Rattle.store_rows.specs.{Fields.{coin_bytes, coin_seen, four_bytes}, Spelled.IsName}
 use Rattle.store_rows.proofs.writing.push_coins.Given as goal
 
 abbrev pub invariant-loop-coin : goal.invariant-loop-coin

@@ -1,7 +1,6 @@
 use Rattle.std.proofs.Common.{◌∙◌, ◌∷◌, []}
 use Rattle.std.proofs.lemmas.Result.{on_ok_weaker}
-use Rattle.store_rows.specs.Fields.{denom_bytes, eight_bytes, sixteen_bytes, truth_byte}
-use Rattle.store_rows.specs.Rows.{later_params_bytes}
+use Rattle.store_rows.specs.{Fields.{denom_bytes, eight_bytes, sixteen_bytes, truth_byte}, Rows.later_params_bytes}
 use Rattle.store_rows.proofs.FieldLemmas.{nine_pieces}
 use Rattle.store_rows.proofs.writing.push_params.Goals as goal
 

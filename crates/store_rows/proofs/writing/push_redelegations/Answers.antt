@@ -1,7 +1,5 @@
-use Rattle.std.proofs.Common.{◌∙◌, sym}
-use Rattle.std.proofs.lemmas.List.{append-nil}
-use Rattle.store_rows.specs.Rows.{redelegation_bytes}
-use Rattle.store_rows.specs.Spelled.{IsRedelegation}
+use Rattle.std.proofs.Common.{◌∙◌, sym, append-nil}
+use Rattle.store_rows.specs.{Rows.redelegation_bytes, Spelled.IsRedelegation}
 use Rattle.store_rows.proofs.LoopLemmas.{each_done, each_more, writes_all, writes_on}
 use Rattle.store_rows.proofs.writing.push_redelegations.Goals as goal
 

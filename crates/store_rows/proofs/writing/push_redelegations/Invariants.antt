@@ -1,8 +1,6 @@
-use Rattle.std.proofs.Common.{◌≡◌, ◌++◌, length, take}
-use Rattle.std.specs.List.{AllByRecursion, flat_map}
-use Rattle.store_rows.specs.Fields.{four_bytes}
-use Rattle.store_rows.specs.Rows.{redelegation_bytes}
-use Rattle.store_rows.specs.Spelled.{IsRedelegation}
+use Rattle.std.proofs.Common.{◌≡◌, ◌++◌, length, take, flat_map}
+use Rattle.std.specs.List.{AllByRecursion}
+use Rattle.store_rows.specs.{Fields.four_bytes, Rows.redelegation_bytes, Spelled.IsRedelegation}
 use Rattle.store_rows.proofs.writing.push_redelegations.Given as goal
 
 abbrev pub invariant-loop-entry : goal.invariant-loop-entry

@@ -1,5 +1,4 @@
-use Rattle.std.specs.Map.Iter.{deref_pair}
-use Rattle.std.proofs.lemmas.Map.Iter.{rest_more}
+use Rattle.std.{specs.Map.Iter.deref_pair, proofs.lemmas.Map.Iter.rest_more}
 use Rattle.store_soundness.proofs.CountLemmas.{current_step}
 use Rattle.store_soundness.proofs.histories.add_currents.Goals as goal
 

@@ -1,6 +1,5 @@
-use Rattle.std.proofs.Common.{◌≡◌, None}
+use Rattle.std.proofs.Common.{◌≡◌, None, option_map}
 use Rattle.std.specs.Map.Iter.{deref_pair}
-use Rattle.std.specs.Prelude.{option_map}
 use Rattle.store_soundness.specs.Histories.{do_ratios_grow}
 use Rattle.store_soundness.proofs.histories.do_ratios_grow.Given as goal
 

@@ -1,6 +1,5 @@
 use Rattle.std.proofs.Common.{◌≡◌}
-use Rattle.store_soundness.specs.Accounts.{bonded_of}
-use Rattle.store_soundness.specs.Tally.{summed}
+use Rattle.store_soundness.specs.{Accounts.bonded_of, Tally.summed}
 use Rattle.store_soundness.proofs.stakes.bonded_tokens.Given as goal
 
 abbrev pub invariant-loop-validator : goal.invariant-loop-validator

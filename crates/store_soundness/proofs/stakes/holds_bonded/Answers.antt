@@ -1,8 +1,7 @@
 use Rattle.std.proofs.Common.{◌∙◌, ap}
 use Rattle.base_types.specs.declared.account.Account.TheVariants as account
 use Rattle.base_types.specs.declared.account.Module.TheVariants as holder
-use Rattle.store_soundness.specs.Accounts.{holds_just}
-use Rattle.store_soundness.proofs.BackingLemmas.{holds_bonded_tokens}
+use Rattle.store_soundness.{specs.Accounts.holds_just, proofs.BackingLemmas.holds_bonded_tokens}
 use Rattle.store_soundness.proofs.stakes.holds_bonded.Goals as goal
 
 pub returns : goal.returns

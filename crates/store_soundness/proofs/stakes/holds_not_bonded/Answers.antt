@@ -1,8 +1,7 @@
 use Rattle.std.proofs.Common.{◌∙◌, ap}
 use Rattle.base_types.specs.declared.account.Account.TheVariants as account
 use Rattle.base_types.specs.declared.account.Module.TheVariants as holder
-use Rattle.store_soundness.specs.Accounts.{holds_just, with_unbondings}
-use Rattle.store_soundness.proofs.AccountLemmas.{holds_other_tokens}
+use Rattle.store_soundness.{specs.Accounts.{holds_just, with_unbondings}, proofs.AccountLemmas.holds_other_tokens}
 use Rattle.store_soundness.proofs.stakes.holds_not_bonded.Goals as goal
 
 pub returns : goal.returns

@@ -1,6 +1,5 @@
 use Rattle.std.proofs.Common.{◌≡◌}
-use Rattle.store_soundness.specs.Accounts.{others_of}
-use Rattle.store_soundness.specs.Tally.{summed}
+use Rattle.store_soundness.specs.{Accounts.others_of, Tally.summed}
 use Rattle.store_soundness.proofs.stakes.other_tokens.Given as goal
 
 abbrev pub invariant-loop-validator : goal.invariant-loop-validator

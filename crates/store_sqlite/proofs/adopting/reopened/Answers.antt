@@ -1,10 +1,8 @@
 use Rattle.std.proofs.Common.{◌≡◌, ◌∙◌, sym, subst, subst₂, arith, false, IsTrue}
 use Rattle.std.proofs.lemmas.Bool.{true_from_ne_false, both_ways}
-use Rattle.sqlite_trees.specs.View.{IsClean}
-use Rattle.sqlite_trees.specs.Tree.{Trees}
+use Rattle.sqlite_trees.specs.{View.IsClean, Tree.Trees}
 use Rattle.sqlite_catalog.specs.Listing.{IsSound}
-use Rattle.store_sqlite.specs.Kept.{kept_schema}
-use Rattle.store_sqlite.proofs.Numbers.{IsNumbered, numbers_rise}
+use Rattle.store_sqlite.{specs.Kept.kept_schema, proofs.Numbers.{IsNumbered, numbers_rise}}
 use Rattle.store_sqlite.proofs.adopting.reopened.Goals as goal
 
 pub returns-in-Ok-clause-rising : goal.returns-in-Ok-clause-rising

@@ -1,5 +1,4 @@
-use Rattle.std.proofs.Common.{subst}
-use Rattle.std.specs.Prelude.{IfOk}
+use Rattle.std.proofs.Common.{subst, IfOk}
 use Rattle.base_io.specs.Changes.{IsOrdinary}
 use Rattle.test_history.proofs.keeper_tests.changes_at.Goals as goal
 

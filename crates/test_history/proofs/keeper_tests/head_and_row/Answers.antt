@@ -1,7 +1,6 @@
 use Rattle.std.proofs.Common.{◌≡◌, List, [], ◌∷◌, ap, length, rules, subst, sym}
-use Rattle.base_io.specs.declared.keeper.Change.{Change}
+use Rattle.base_io.specs.{declared.keeper.Change.Change, Changes.IsOrdinary}
 use Rattle.base_io.specs.declared.keeper.Change.TheVariants as change
-use Rattle.base_io.specs.Changes.{IsOrdinary}
 use Rattle.test_history.proofs.CommitLemmas.{head_and_row_ordinary}
 use Rattle.test_history.proofs.keeper_tests.head_and_row.Goals as goal
 

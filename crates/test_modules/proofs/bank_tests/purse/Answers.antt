@@ -1,5 +1,4 @@
-use Rattle.std.proofs.Common.{ℕ, List, ◌≤◌, subst}
-use Rattle.std.specs.Prelude.{IfOk}
+use Rattle.std.proofs.Common.{ℕ, List, ◌≤◌, subst, IfOk}
 use Rattle.base_coins.specs.Coins.{amount_of}
 use Rattle.test_modules.proofs.bank_tests.purse.Goals as goal
 

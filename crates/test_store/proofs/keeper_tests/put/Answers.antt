@@ -1,5 +1,4 @@
-use Rattle.std.proofs.Common.{subst}
-use Rattle.std.specs.Prelude.{IfOk}
+use Rattle.std.proofs.Common.{subst, IfOk}
 use Rattle.base_io.specs.Rows.{HasDistinctKeys}
 use Rattle.test_store.proofs.keeper_tests.put.Goals as goal
 

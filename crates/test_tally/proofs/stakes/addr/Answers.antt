@@ -1,6 +1,5 @@
 use Rattle.std.proofs.Common.{◌≡◌, ◌∙◌, ℕ, List, Option, Some, None, replicate, sym}
-use Rattle.base_types.specs.declared.account.Module.{Module}
-use Rattle.base_types.specs.Modules.{module_of, user_or_none}
+use Rattle.base_types.specs.{declared.account.Module.Module, Modules.{module_of, user_or_none}}
 use Rattle.test_tally.proofs.stakes.addr.Goals as goal
 
 -- the address of bytes is these bytes

@@ -1,5 +1,4 @@
-use Rattle.std.proofs.Common.{◌<◌, ◌^◌}
-use Rattle.std.specs.Prelude.{All}
+use Rattle.std.proofs.Common.{◌<◌, ◌^◌, All}
 use Rattle.test_values.proofs.coin_tests.coins.Given as goal
 
 abbrev pub invariant-loop-name : goal.invariant-loop-name

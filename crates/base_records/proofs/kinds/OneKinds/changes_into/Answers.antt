@@ -1,5 +1,4 @@
-use Rattle.base_records.proofs.KindLemmas.{on_ok}
-use Rattle.base_records.proofs.RowLemmas.{rows-changed}
+use Rattle.base_records.proofs.{KindLemmas.on_ok, RowLemmas.rows-changed}
 use Rattle.base_records.proofs.kinds.OneKinds.changes_into.Goals as goal
 
 pub returns-clause-changes : goal.returns-clause-changes

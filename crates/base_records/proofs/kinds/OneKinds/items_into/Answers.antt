@@ -1,5 +1,4 @@
-use Rattle.base_records.proofs.KindLemmas.{is_ok}
-use Rattle.base_records.proofs.RowLemmas.{rows-told-once}
+use Rattle.base_records.proofs.{KindLemmas.is_ok, RowLemmas.rows-told-once}
 use Rattle.base_records.proofs.kinds.OneKinds.items_into.Goals as goal
 
 pub returns-clause-once : goal.returns-clause-once

@@ -1,7 +1,5 @@
-use Rattle.std.specs.Prelude.{◌-◌, ◌++◌, ◌∷◌, []}
-use Rattle.std.proofs.Common.{sym, ◌∙◌, ap, subst}
-use Rattle.base_table.specs.Places.{filled, slots, AreStamped}
-use Rattle.base_table.proofs.KeptLemmas.{fewer, marks-closed, IsKept-closed}
+use Rattle.std.proofs.Common.{◌-◌, ◌++◌, ◌∷◌, [], sym, ◌∙◌, ap, subst}
+use Rattle.base_table.{specs.Places.{filled, slots, AreStamped}, proofs.KeptLemmas.{fewer, marks-closed, IsKept-closed}}
 use Rattle.base_table.proofs.UndoLemmas.{marks_of-fewer}
 use Rattle.base_table.proofs.places.Places.back.Goals as goal
 

@@ -1,9 +1,6 @@
-use Rattle.std.specs.Prelude.{◌<◌, nat_lt}
-use Rattle.std.proofs.Common.{sym, ◌∙◌, ap, subst, arith}
-use Rattle.base_table.specs.Places.{is_full, len_changed}
-use Rattle.base_table.proofs.ChangeLemmas.{few-seen, some-seen}
-use Rattle.base_table.proofs.KeptLemmas.{is_open, not_open}
-use Rattle.base_table.proofs.NotedLemmas.{kept-noted, seen-noted, stamped-noted}
+use Rattle.std.proofs.Common.{◌<◌, nat_lt, sym, ◌∙◌, ap, subst, arith}
+use Rattle.base_table.{specs.Places.{is_full, len_changed}, proofs.ChangeLemmas.{few-seen, some-seen}}
+use Rattle.base_table.proofs.{KeptLemmas.{is_open, not_open}, NotedLemmas.{kept-noted, seen-noted, stamped-noted}}
 use Rattle.base_table.proofs.places.Places.change.Goals as goal
 
 pub len_after-len-requires-clause-some : goal.len_after-len-requires-clause-some

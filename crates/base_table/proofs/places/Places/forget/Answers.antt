@@ -1,7 +1,5 @@
-use Rattle.std.specs.Prelude.{◌-◌, ◌<◌, ◌++◌, ◌∷◌, [], length}
-use Rattle.std.proofs.Common.{sym, ◌∙◌, ap, subst}
-use Rattle.base_table.specs.Places.{slots}
-use Rattle.base_table.proofs.KeptLemmas.{fewer, marks-closed, IsKept-closed}
+use Rattle.std.proofs.Common.{◌-◌, ◌<◌, ◌++◌, ◌∷◌, [], length, sym, ◌∙◌, ap, subst}
+use Rattle.base_table.{specs.Places.slots, proofs.KeptLemmas.{fewer, marks-closed, IsKept-closed}}
 use Rattle.base_table.proofs.places.Places.forget.Goals as goal
 
 pub invariant_of-self : goal.invariant_of-self

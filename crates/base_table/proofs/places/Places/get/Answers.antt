@@ -1,9 +1,6 @@
-use Rattle.std.specs.Prelude.{option_map}
-use Rattle.std.specs.Map.{lookup, lookup_key}
-use Rattle.std.specs.BTreeMap.{is_at}
-use Rattle.std.proofs.Common.{sym, ◌∙◌, ap}
-use Rattle.base_table.specs.Places.{filled, slots}
-use Rattle.base_table.proofs.EntryLemmas.{lookup_is, lookup_key_is}
+use Rattle.std.proofs.Common.{option_map, sym, ◌∙◌, ap}
+use Rattle.std.specs.{Map.{lookup, lookup_key}, BTreeMap.is_at}
+use Rattle.base_table.{specs.Places.{filled, slots}, proofs.EntryLemmas.{lookup_is, lookup_key_is}}
 use Rattle.base_table.proofs.PlaceLemmas.{pair_key, pair_value}
 use Rattle.base_table.proofs.places.Places.get.Goals as goal
 

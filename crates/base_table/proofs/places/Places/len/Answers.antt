@@ -1,9 +1,6 @@
 use Rattle.std.proofs.Common.{subst}
-use Rattle.std.specs.List.Sorted.{IsStrictlySortedBy}
-use Rattle.std.specs.Map.{keys_of}
-use Rattle.base_table.specs.Places.{slot_of, slots}
-use Rattle.base_table.proofs.EachLemmas.{sorted-each}
-use Rattle.base_table.proofs.PlaceLemmas.{sorted-filled}
+use Rattle.std.specs.{List.Sorted.IsStrictlySortedBy, Map.keys_of}
+use Rattle.base_table.{specs.Places.{slot_of, slots}, proofs.{EachLemmas.sorted-each, PlaceLemmas.sorted-filled}}
 use Rattle.base_table.proofs.places.Places.len.Goals as goal
 
 pub returns-clause-ordered : goal.returns-clause-ordered

@@ -1,8 +1,5 @@
-use Rattle.std.specs.Prelude.{◌++◌, ◌∷◌, []}
-use Rattle.std.proofs.Common.{sym, ◌∙◌, arith}
-use Rattle.base_table.specs.Places.{slots}
-use Rattle.base_table.proofs.UndoLemmas.{latest-few, marks_of-more}
-use Rattle.base_table.proofs.KeptLemmas.{IsKept-marked}
+use Rattle.std.proofs.Common.{◌++◌, ◌∷◌, [], sym, ◌∙◌, arith}
+use Rattle.base_table.{specs.Places.slots, proofs.{UndoLemmas.{latest-few, marks_of-more}, KeptLemmas.IsKept-marked}}
 use Rattle.base_table.proofs.places.Places.mark.Goals as goal
 
 pub overflow_add-self : goal.overflow_add-self

@@ -1,10 +1,6 @@
-use Rattle.std.proofs.Common.{◌∙◌, ap}
-use Rattle.std.specs.BTreeMap.Range.{entries_between}
-use Rattle.std.specs.Option.{option_copied}
-use Rattle.std.specs.declared.ops.Bound.TheVariants.{Unbounded}
-use Rattle.base_table.specs.Places.{filled, slots}
-use Rattle.base_table.specs.Tabled.{entry_above, first_of}
-use Rattle.base_table.proofs.WalkLemmas.{entries_above}
+use Rattle.std.proofs.Common.{◌∙◌, ap, option_copied}
+use Rattle.std.specs.{BTreeMap.Range.entries_between, declared.ops.Bound.TheVariants.Unbounded}
+use Rattle.base_table.{specs.{Places.{filled, slots}, Tabled.{entry_above, first_of}}, proofs.WalkLemmas.entries_above}
 use Rattle.base_table.proofs.places.Places.next.Goals as goal
 
 pub returns : goal.returns

@@ -1,6 +1,5 @@
 use Rattle.std.proofs.Common.{sym, ◌∙◌, ap, subst}
-use Rattle.base_table.specs.Places.{slots, stamps, AreStamped}
-use Rattle.base_table.proofs.KeptLemmas.{marks-swept, IsKept-swept}
+use Rattle.base_table.{specs.Places.{slots, stamps, AreStamped}, proofs.KeptLemmas.{marks-swept, IsKept-swept}}
 use Rattle.base_table.proofs.places.Places.settle.Goals as goal
 
 pub invariant_of-self : goal.invariant_of-self

@@ -1,9 +1,6 @@
 use Rattle.std.proofs.Common.{subst}
-use Rattle.std.specs.List.{IsDistinct}
-use Rattle.std.specs.Map.{keys_of}
-use Rattle.std.specs.Ordering.{eq_by_cmp}
-use Rattle.base_table.specs.Places.{stamps}
-use Rattle.base_table.proofs.StampLemmas.{distinct}
+use Rattle.std.specs.{List.IsDistinct, Map.keys_of, Ordering.eq_by_cmp}
+use Rattle.base_table.{specs.Places.stamps, proofs.StampLemmas.distinct}
 use Rattle.base_table.proofs.places.Places.touched.Goals as goal
 
 pub returns-clause-distinct : goal.returns-clause-distinct

@@ -1,9 +1,6 @@
-use Rattle.std.specs.Prelude.{option_map}
+use Rattle.std.proofs.Common.{option_map, sym, ◌∙◌, ap}
 use Rattle.std.specs.BTreeMap.{is_at}
-use Rattle.std.proofs.Common.{sym, ◌∙◌, ap}
-use Rattle.base_table.specs.Places.{stamp_of, stamps, value_stamped}
-use Rattle.base_table.specs.Tabled.{value_at}
-use Rattle.base_table.proofs.EachLemmas.{lookup-each}
+use Rattle.base_table.{specs.{Places.{stamp_of, stamps, value_stamped}, Tabled.value_at}, proofs.EachLemmas.lookup-each}
 use Rattle.base_table.proofs.StampLemmas.{listed-by_stamp, unlisted-without}
 use Rattle.base_table.proofs.places.Places.touched_value.Goals as goal
 

@@ -1,6 +1,5 @@
 use Rattle.std.proofs.Common.{refl}
-use Rattle.base_table.specs.Restored.{restored}
-use Rattle.base_table.proofs.MarkLemmas.{forgotten, MarksRestore-by, MarksRestore-closed}
+use Rattle.base_table.{specs.Restored.restored, proofs.MarkLemmas.{forgotten, MarksRestore-by, MarksRestore-closed}}
 use Rattle.base_table.proofs.table.Table.forget.Goals as goal
 
 pub invariant_of-self : goal.invariant_of-self

@@ -1,6 +1,6 @@
 use Rattle.base_table.proofs.MarkLemmas.{MarksRestore-opened, MarksRestore-same}
-use Rattle.base_table.proofs.table.Table.mark.Goals as goal
 use Rattle.base_table.proofs.table.Table.mark.Goals.{in-Ok, in-Err}
+use Rattle.base_table.proofs.table.Table.mark.Goals as goal
 
 pub invariant_of-self : goal.invariant_of-self
 invariant_of-self g c =

@@ -1,6 +1,5 @@
 use Rattle.std.proofs.Common.{ap}
-use Rattle.std.specs.BTreeMap.{is_at}
-use Rattle.std.specs.Map.{remove_entry}
+use Rattle.std.specs.{BTreeMap.is_at, Map.remove_entry}
 use Rattle.base_table.proofs.MarkLemmas.{changed_table, MarksRestore-touched}
 use Rattle.base_table.proofs.table.Table.remove.Goals as goal
 

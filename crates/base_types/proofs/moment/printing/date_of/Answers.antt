@@ -4,10 +4,8 @@ use mir.Syntax.{w16}
 use lib.Dec.{T}
 use lib.Signed.{non_neg}
 use lib.IntN.{nat_abs}
-use Rattle.jiff_core.specs.Date.{epoch_day}
-use Rattle.jiff_core.specs.declared.civil.date.Date.{Date}
-use Rattle.base_types.specs.Calendar.{date_of}
-use Rattle.base_types.proofs.DateLemmas.{date_of-is, date_is_found, bounds_of}
+use Rattle.jiff_core.specs.{Date.epoch_day, declared.civil.date.Date.Date}
+use Rattle.base_types.{specs.Calendar.date_of, proofs.DateLemmas.{date_of-is, date_is_found, bounds_of}}
 use Rattle.base_types.proofs.moment.printing.date_of.Goals as goal
 
 day_same : (date : Date) (n : ℕ) → n ≤ 2932896 → epoch_day date ≡ to_z w64 n → epoch_day date ≡ pos n

@@ -3,8 +3,7 @@ use lib.Dec.{T}
 use lib.Signed.{non_neg}
 use lib.IntN.{nat_abs}
 use Rattle.std.proofs.lemmas.Int.{ints}
-use Rattle.jiff_core.specs.Calendar.{days_from_civil, IsDate}
-use Rattle.jiff_core.specs.Date.{epoch_day}
+use Rattle.jiff_core.specs.{Calendar.{days_from_civil, IsDate}, Date.epoch_day}
 use Rattle.base_types.proofs.DayLemmas.{passed_date, ymd_day, from_1970, day_found, date_is}
 use Rattle.base_types.proofs.moment.reading.day_of.Goals as goal
 

@@ -1,9 +1,6 @@
 use Rattle.std.proofs.Common.{◌++◌}
 use Rattle.base_records.proofs.KindLemmas.{added-twice, on_ok}
-use Rattle.chain_modules.specs.Kept.{kept_of}
-use Rattle.chain_modules.specs.Marks.{settled_over}
-use Rattle.chain_modules.specs.Items.{ctx_changes}
-use Rattle.chain_modules.proofs.ItemLemmas.{all_changed}
+use Rattle.chain_modules.{specs.{Kept.kept_of, Marks.settled_over, Items.ctx_changes}, proofs.ItemLemmas.all_changed}
 use Rattle.chain_modules.proofs.modules.Modules.changes_into.Goals as goal
 
 pub returns-clause-changes : goal.returns-clause-changes

@@ -1,7 +1,6 @@
 use Rattle.std.proofs.Common.{◌∙◌}
 use Rattle.std.proofs.lemmas.Result.{err_from_is_err_and}
-use Rattle.chain_modules.specs.Kept.{stakes_kept}
-use Rattle.chain_modules.specs.Marks.{hooks_marks, stakes_marks, stakes_settled}
+use Rattle.chain_modules.specs.{Kept.stakes_kept, Marks.{hooks_marks, stakes_marks, stakes_settled}}
 use Rattle.chain_modules.proofs.MarkLemmas.{forgotten, one_more_some}
 use Rattle.chain_modules.proofs.modules.Modules.mark.Goals as goal
 

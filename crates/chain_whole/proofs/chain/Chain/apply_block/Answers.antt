@@ -1,7 +1,6 @@
 use Rattle.std.proofs.Common.{Ok, sym, subst}
 use Rattle.chain_modules.specs.Kept.{StandsFor, kept_of}
-use Rattle.chain_whole.specs.Chained.{Chained}
-use Rattle.chain_whole.proofs.FairLemmas.{goes_on_fairly}
+use Rattle.chain_whole.{specs.Chained.Chained, proofs.FairLemmas.goes_on_fairly}
 use Rattle.chain_whole.proofs.chain.Chain.apply_block.Goals as goal
 
 pub apply-requires-clause-rest : goal.apply-requires-clause-rest

@@ -1,8 +1,6 @@
 use Rattle.std.proofs.Common.{sym, subst}
-use Rattle.chain_modules.specs.Kept.{StandsFor, kept_of}
-use Rattle.chain_modules.specs.Marks.{settled_over}
-use Rattle.chain_whole.specs.Chained.{Chained}
-use Rattle.chain_whole.proofs.ChainLemmas.{changes_are_kept}
+use Rattle.chain_modules.specs.{Kept.{StandsFor, kept_of}, Marks.settled_over}
+use Rattle.chain_whole.{specs.Chained.Chained, proofs.ChainLemmas.changes_are_kept}
 use Rattle.chain_whole.proofs.chain.Chain.changes.Goals as goal
 
 pub returns-clause-changes : goal.returns-clause-changes

@@ -1,8 +1,6 @@
 use Rattle.std.proofs.Common.{◌∙◌, sym, subst}
 use Rattle.chain_modules.specs.Kept.{StandsFor, kept_of}
-use Rattle.chain_whole.specs.Chained.{Chained}
-use Rattle.chain_whole.proofs.ChainLemmas.{in_key_order}
-use Rattle.chain_whole.proofs.ItemLemmas.{items_are_kept}
+use Rattle.chain_whole.{specs.Chained.Chained, proofs.{ChainLemmas.in_key_order, ItemLemmas.items_are_kept}}
 use Rattle.chain_whole.proofs.chain.Chain.items.Goals as goal
 
 pub returns-clause-items : goal.returns-clause-items

@@ -1,9 +1,7 @@
-use Rattle.std.proofs.Common.{sym, subst}
-use Rattle.std.specs.List.Sorted.{IsPermutation}
+use Rattle.std.proofs.Common.{sym, subst, IsPermutation}
 use Rattle.rule_machine.specs.Report.{pending_of}
 use Rattle.chain_modules.specs.Kept.{StandsFor}
-use Rattle.chain_whole.specs.Chained.{Chained}
-use Rattle.chain_whole.proofs.PendingLemmas.{pending_permuted}
+use Rattle.chain_whole.{specs.Chained.Chained, proofs.PendingLemmas.pending_permuted}
 use Rattle.chain_whole.proofs.chain.Chain.pending.Goals as goal
 
 pub pending_of-requires-clause-rest : goal.pending_of-requires-clause-rest

@@ -1,8 +1,6 @@
 use Rattle.std.proofs.Common.{sym, subst}
 use Rattle.chain_modules.specs.Kept.{StandsFor}
-use Rattle.chain_whole.specs.Chained.{Chained}
-use Rattle.chain_whole.specs.Pending.{ArePendingTo}
-use Rattle.chain_whole.proofs.OwnLemmas.{own_pending}
+use Rattle.chain_whole.{specs.{Chained.Chained, Pending.ArePendingTo}, proofs.OwnLemmas.own_pending}
 use Rattle.chain_whole.proofs.chain.Chain.pending_to.Goals as goal
 
 pub pending_to-requires-clause-rest : goal.pending_to-requires-clause-rest

@@ -1,6 +1,5 @@
 use Rattle.std.proofs.Common.{◌∙◌, ap}
-use Rattle.chain_whole.specs.Chained.{Chained}
-use Rattle.chain_whole.proofs.ChainLemmas.{settled_then}
+use Rattle.chain_whole.{specs.Chained.Chained, proofs.ChainLemmas.settled_then}
 use Rattle.chain_whole.proofs.chain.Chain.settle.Goals as goal
 
 pub settle_modules-requires-clause-rest : goal.settle_modules-requires-clause-rest

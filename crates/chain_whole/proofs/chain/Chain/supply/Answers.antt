@@ -1,8 +1,7 @@
 use Rattle.std.proofs.Common.{◌∙◌, sym, ap, subst}
 use Rattle.base_roles.specs.World.{View}
 use Rattle.chain_modules.specs.Kept.{StandsFor}
-use Rattle.chain_whole.specs.Chained.{Chained}
-use Rattle.chain_whole.proofs.ChainLemmas.{backed}
+use Rattle.chain_whole.{specs.Chained.Chained, proofs.ChainLemmas.backed}
 use Rattle.chain_whole.proofs.chain.Chain.supply.Goals as goal
 
 pub supply_of-requires-clause-backed : goal.supply_of-requires-clause-backed

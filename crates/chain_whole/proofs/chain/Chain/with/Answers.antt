@@ -1,7 +1,5 @@
 use Rattle.std.proofs.Common.{◌∙◌, sym, ap, subst}
-use Rattle.chain_whole.specs.Answers.{Starts}
-use Rattle.chain_whole.specs.Chained.{Chained}
-use Rattle.chain_whole.proofs.ChainLemmas.{settled_now}
+use Rattle.chain_whole.{specs.{Answers.Starts, Chained.Chained}, proofs.ChainLemmas.settled_now}
 use Rattle.chain_whole.proofs.chain.Chain.with.Goals as goal
 
 pub returns-clause-chain : goal.returns-clause-chain

@@ -1,7 +1,5 @@
-use Rattle.std.proofs.Common.{refl}
-use Rattle.std.proofs.Common.{◌≡◌, Err, rules}
-use Rattle.line_json.specs.Params.{params_of}
-use Rattle.line_json.proofs.ReadingLemmas.{fault_given}
+use Rattle.std.proofs.Common.{refl, ◌≡◌, Err, rules}
+use Rattle.line_json.{specs.Params.params_of, proofs.ReadingLemmas.fault_given}
 use Rattle.line_json.proofs.params_reading.ParamsFromTree.from_tree.Goals as goal
 
 pub returns-in_err-only_named : goal.returns-in_err-only_named

@@ -1,7 +1,6 @@
 use Rattle.std.proofs.Common.{◌∙◌, ap}
 use Rattle.serde_json.specs.Find.{as_bool}
-use Rattle.line_json.specs.Tape.{tree_at}
-use Rattle.line_json.proofs.PlaceLemmas.{boolean_there}
+use Rattle.line_json.{specs.Tape.tree_at, proofs.PlaceLemmas.boolean_there}
 use Rattle.line_json.proofs.place.PlaceTree.as_bool.Goals as goal
 
 pub returns : goal.returns

@@ -1,7 +1,5 @@
 use Rattle.std.proofs.Common.{◌∙◌, ap, Some, None}
-use Rattle.line_json.specs.Members.{as_count}
-use Rattle.line_json.specs.Tape.{tree_at}
-use Rattle.line_json.proofs.PlaceLemmas.{count_there}
+use Rattle.line_json.{specs.{Members.as_count, Tape.tree_at}, proofs.PlaceLemmas.count_there}
 use Rattle.line_json.proofs.place.PlaceTree.as_count.Goals as goal
 
 pub returns-in-Some : goal.returns-in-Some

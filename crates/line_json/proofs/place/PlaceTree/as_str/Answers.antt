@@ -1,7 +1,6 @@
 use Rattle.std.proofs.Common.{◌∙◌, ap}
 use Rattle.serde_json.specs.Find.{as_str}
-use Rattle.line_json.specs.Tape.{tree_at}
-use Rattle.line_json.proofs.PlaceLemmas.{string_there}
+use Rattle.line_json.{specs.Tape.tree_at, proofs.PlaceLemmas.string_there}
 use Rattle.line_json.proofs.place.PlaceTree.as_str.Goals as goal
 
 pub returns : goal.returns

@@ -1,7 +1,6 @@
 use Rattle.std.proofs.Common.{◌∙◌, ap}
 use Rattle.serde_json.specs.Find.{as_array}
-use Rattle.line_json.specs.Tape.{tree_at}
-use Rattle.line_json.proofs.PlaceLemmas.{elements_there, no_elements_there}
+use Rattle.line_json.{specs.Tape.tree_at, proofs.PlaceLemmas.{elements_there, no_elements_there}}
 use Rattle.line_json.proofs.place.PlaceTree.elements.Goals as goal
 
 pub invariant_of-result : goal.invariant_of-result

@@ -1,7 +1,6 @@
 use Rattle.std.proofs.Common.{◌∙◌, ap}
 use Rattle.serde_json.specs.Find.{get}
-use Rattle.line_json.specs.Tape.{tree_at}
-use Rattle.line_json.proofs.PlaceLemmas.{found_there, found_nowhere}
+use Rattle.line_json.{specs.Tape.tree_at, proofs.PlaceLemmas.{found_there, found_nowhere}}
 use Rattle.line_json.proofs.place.PlaceTree.get.Goals as goal
 
 pub invariant_of-result : goal.invariant_of-result

@@ -1,10 +1,7 @@
-use Rattle.std.proofs.Common.{◌≡◌, ◌∙◌, ap, Option, Some, None, Bool, List, ℕ}
-use Rattle.std.specs.Prelude.{MatchOption}
-use Rattle.json.specs.Token.{Token}
+use Rattle.std.proofs.Common.{◌≡◌, ◌∙◌, ap, Option, Some, None, Bool, List, ℕ, MatchOption}
+use Rattle.json.specs.{Token.Token, Find.{BeginsWith, as_object}}
 use Rattle.json.specs.Json as json
-use Rattle.json.specs.Find.{BeginsWith, as_object}
-use Rattle.line_json.specs.Members.{named_among, texts_of}
-use Rattle.line_json.specs.Tape.{IsTree, tree_at, keys_among}
+use Rattle.line_json.specs.{Members.{named_among, texts_of}, Tape.{IsTree, tree_at, keys_among}}
 use Rattle.line_json.proofs.PlaceLemmas.{named_there, no_members_there}
 use Rattle.line_json.proofs.place.PlaceTree.named_among.Goals as goal
 

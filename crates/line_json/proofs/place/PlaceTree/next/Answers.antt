@@ -1,6 +1,5 @@
 use Rattle.std.proofs.Common.{sym, subst}
-use Rattle.line_json.specs.Tape.{AreElements}
-use Rattle.line_json.proofs.PlaceLemmas.{last_element, next_element}
+use Rattle.line_json.{specs.Tape.AreElements, proofs.PlaceLemmas.{last_element, next_element}}
 use Rattle.line_json.proofs.place.PlaceTree.next.Goals.{in-Some, in-None}
 use Rattle.line_json.proofs.place.PlaceTree.next.Goals as goal
 

@@ -1,8 +1,6 @@
 use Rattle.std.proofs.Common.{rules, ◌≡◌, Some, refl}
-use Rattle.serde_json.specs.View.{view, members_view}
-use Rattle.serde_json.specs.Find.{as_object}
-use Rattle.line_json.specs.Members.{texts_of}
-use Rattle.line_json.proofs.ReadingLemmas.{are_among-keys}
+use Rattle.serde_json.specs.{View.{view, members_view}, Find.as_object}
+use Rattle.line_json.{specs.Members.texts_of, proofs.ReadingLemmas.are_among-keys}
 use Rattle.line_json.proofs.value_tree.RefValueTree.named_among.Goals as goal
 
 pub returns-in-Some : goal.returns-in-Some

@@ -1,13 +1,9 @@
 use Rattle.std.proofs.Common.{◌≡◌, ◌∙◌, ◌+◌, List, [], append-nil, drop, refl, sym, ap, subst, arith}
-use Rattle.std.proofs.lemmas.Result.{err_from_is_err_and}
-use Rattle.std.proofs.lemmas.List.Elements.{recursion_from_All}
-use Rattle.base_roles.specs.declared.messages.Vote.{Vote}
-use Rattle.base_roles.specs.Log.{Log}
+use Rattle.std.proofs.lemmas.{Result.err_from_is_err_and, List.Elements.recursion_from_All}
+use Rattle.base_roles.specs.{declared.messages.Vote.Vote, Log.Log}
 use Rattle.rule_modules.specs.Allocation.{shares_allocated}
 use Rattle.mod_sums.specs.Faults.{IsExcessOf}
-use Rattle.mod_allocation.specs.Calls.{IsOfVoter}
-use Rattle.mod_allocation.proofs.AnswerLemmas.{wanting}
-use Rattle.mod_allocation.proofs.ShareLemmas.{item-of, none-left}
+use Rattle.mod_allocation.{specs.Calls.IsOfVoter, proofs.{AnswerLemmas.wanting, ShareLemmas.{item-of, none-left}}}
 use Rattle.mod_allocation.proofs.LoopLemmas.{IsOnTheWay, way_begins, way_on, way_over, way_share_over, share_enough, told_more, some_power, sharing_none, sharing_all}
 use Rattle.mod_allocation.proofs.purses.Alloc.share_out.Goals as goal
 

@@ -1,7 +1,6 @@
 use Rattle.std.proofs.Common.{◌∙◌, ap}
 use Rattle.base_records.proofs.KindLemmas.{changed-at}
-use Rattle.mod_bank.specs.Items.{items_of}
-use Rattle.mod_bank.proofs.ItemLemmas.{kinds-apart}
+use Rattle.mod_bank.{specs.Items.items_of, proofs.ItemLemmas.kinds-apart}
 use Rattle.mod_bank.proofs.records.BankBalancesRecords.changes_into.Goals as goal
 
 pub changes_into-requires : goal.changes_into-requires

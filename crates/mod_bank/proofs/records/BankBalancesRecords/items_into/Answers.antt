@@ -1,7 +1,6 @@
 use Rattle.std.proofs.Common.{◌∙◌, ap}
 use Rattle.base_records.proofs.KindLemmas.{once-at, listed-at}
-use Rattle.mod_bank.specs.Items.{items_of}
-use Rattle.mod_bank.proofs.ItemLemmas.{kinds-apart}
+use Rattle.mod_bank.{specs.Items.items_of, proofs.ItemLemmas.kinds-apart}
 use Rattle.mod_bank.proofs.records.BankBalancesRecords.items_into.Goals as goal
 
 pub items_into-requires : goal.items_into-requires

@@ -1,7 +1,6 @@
 use Rattle.std.proofs.Common.{◌≡◌, ◌∙◌, true, false, refl, sym, ap}
-use Rattle.mod_bank.specs.Items.{is_holding, items_of}
+use Rattle.mod_bank.{specs.Items.{is_holding, items_of}, proofs.ItemLemmas.{no_holding, balance-added, supply-added}}
 use Rattle.base_records.proofs.KindLemmas.{added-at}
-use Rattle.mod_bank.proofs.ItemLemmas.{no_holding, balance-added, supply-added}
 use Rattle.mod_bank.proofs.records.BankBalancesRecords.load.Goals as goal
 
 pub returns-in_default : goal.returns-in_default

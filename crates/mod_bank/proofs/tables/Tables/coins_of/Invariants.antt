@@ -1,5 +1,4 @@
-use Rattle.std.proofs.Common.{◌≡◌, ◌++◌, length}
-use Rattle.std.specs.Prelude.{map}
+use Rattle.std.proofs.Common.{◌≡◌, ◌++◌, length, map}
 use Rattle.base_types.specs.Orders.{denom_cmp}
 use Rattle.base_roles.specs.Holdings.{coins_of}
 use Rattle.base_records.proofs.WalkLemmas.{left_of}

@@ -1,6 +1,5 @@
 use Rattle.std.proofs.Common.{◌+◌, drop}
-use Rattle.mod_bank.proofs.SendLemmas.{drop-at}
-use Rattle.mod_bank.proofs.GiveLemmas.{giving-start, giving-bounded, giving-next}
+use Rattle.mod_bank.proofs.{SendLemmas.drop-at, GiveLemmas.{giving-start, giving-bounded, giving-next}}
 use Rattle.mod_bank.proofs.tables.Tables.give_coins.Goals as goal
 
 pub loop-place-init : goal.loop-place-init

@@ -1,11 +1,8 @@
 use Rattle.std.proofs.Common.{◌≡◌, true, ap, subst}
 use Rattle.base_types.specs.Denom.{is_denom}
-use Rattle.std.specs.List.Sorted.{IsStrictlySortedBy}
-use Rattle.std.specs.Map.{keys_of}
+use Rattle.std.specs.{List.Sorted.IsStrictlySortedBy, Map.keys_of}
 use Rattle.base_roles.specs.Orders.{place_cmp}
-use Rattle.mod_bank.specs.Booked.{booked}
-use Rattle.mod_bank.proofs.OrderLemmas.{put_at, ordered_at}
-use Rattle.mod_bank.proofs.MarkLemmas.{in_step-put}
+use Rattle.mod_bank.{specs.Booked.booked, proofs.{OrderLemmas.{put_at, ordered_at}, MarkLemmas.in_step-put}}
 use Rattle.mod_bank.proofs.tables.Tables.put_balance.Goals as goal
 
 pub invariant_of-self : goal.invariant_of-self

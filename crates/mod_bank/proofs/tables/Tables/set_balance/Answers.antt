@@ -1,5 +1,4 @@
-use Rattle.mod_bank.proofs.OrderLemmas.{removed_at}
-use Rattle.mod_bank.proofs.MarkLemmas.{in_step-removed}
+use Rattle.mod_bank.proofs.{OrderLemmas.removed_at, MarkLemmas.in_step-removed}
 use Rattle.mod_bank.proofs.tables.Tables.set_balance.Goals as goal
 
 pub invariant_of-self : goal.invariant_of-self

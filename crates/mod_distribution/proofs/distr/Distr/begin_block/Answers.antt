@@ -1,22 +1,13 @@
-use Rattle.std.proofs.Common.{◌≡◌, ◌^◌, ◌≤◌, false, sym, subst, refl, ap, arith}
-use Rattle.std.specs.Prelude.{OnOk, nat_le}
-use Rattle.std.proofs.lemmas.Bool.Decides.{nat_tests}
-use Rattle.std.proofs.lemmas.Result.{err_from_is_err_and}
+use Rattle.std.proofs.Common.{◌≡◌, ◌^◌, ◌≤◌, false, sym, subst, refl, ap, arith, OnOk, nat_le}
+use Rattle.std.proofs.lemmas.{Bool.Decides.nat_tests, Result.err_from_is_err_and}
 use Rattle.base_coins.specs.Coins.{amount_of}
-use Rattle.base_roles.specs.Ground.{seen}
-use Rattle.base_roles.specs.Owing.{Lists}
-use Rattle.base_roles.specs.World.{View}
-use Rattle.rule_modules.specs.Allocation.{fees_allocated}
-use Rattle.rule_modules.specs.Distribution.{told_of}
-use Rattle.mod_allocation.specs.Calls.{AreVotes}
-use Rattle.mod_allocation.specs.Owed.{AreWithin}
-use Rattle.mod_distribution.proofs.CarryLemmas.{told_wants}
-use Rattle.mod_distribution.proofs.PoolLemmas.{fees_told, fees_within}
-use Rattle.mod_distribution.proofs.StandLemmas.{fees_stand}
-use Rattle.base_records.proofs.KindLemmas.{is_ok}
-use Rattle.mod_distribution.specs.Calls.{StandFor}
+use Rattle.base_roles.specs.{Ground.seen, Owing.Lists, World.View}
+use Rattle.rule_modules.specs.{Allocation.fees_allocated, Distribution.told_of}
+use Rattle.mod_allocation.specs.{Calls.AreVotes, Owed.AreWithin}
+use Rattle.mod_distribution.proofs.{CarryLemmas.told_wants, PoolLemmas.{fees_told, fees_within}, StandLemmas.fees_stand}
+use Rattle.mod_distribution.{proofs.MarkLemmas.{goes_on-step, in_step-same}, specs.Calls.StandFor}
 use Rattle.mod_distribution.specs.Kept.{Distributed, SharedGoesOn, distributed, kept_with}
-use Rattle.mod_distribution.proofs.MarkLemmas.{goes_on-step, in_step-same}
+use Rattle.base_records.proofs.KindLemmas.{is_ok}
 use Rattle.mod_distribution.proofs.distr.Distr.begin_block.Goals as goal
 
 pub collect-requires : goal.collect-requires

@@ -1,17 +1,12 @@
-use Rattle.std.proofs.Common.{◌∙◌, [], refl, sym, ap, subst}
-use Rattle.std.specs.Prelude.{Ok}
+use Rattle.std.proofs.Common.{◌∙◌, [], refl, sym, ap, subst, Ok}
 use Rattle.std.proofs.lemmas.Result.{err_from_is_err_and, IfOk-weaker}
 use Rattle.base_roles.specs.Ground.{seen}
-use Rattle.mod_allocation.specs.Owed.{IsMoved}
-use Rattle.mod_periods.specs.Kept.{Kept, events_of}
-use Rattle.mod_periods.specs.Scenes.{HasPeriods}
-use Rattle.mod_distribution.specs.Calls.{HasRecords}
-use Rattle.mod_periods.specs.Stands.{KeepsRewards}
-use Rattle.mod_distribution.specs.Kept.{KeptShared, SharedGoesOn, distributed}
+use Rattle.mod_allocation.{specs.Owed.IsMoved, proofs.LoopLemmas.told_more}
+use Rattle.mod_periods.specs.{Kept.{Kept, events_of}, Scenes.HasPeriods, Stands.KeepsRewards}
+use Rattle.mod_distribution.specs.{Calls.HasRecords, Kept.{KeptShared, SharedGoesOn, distributed}}
 use Rattle.mod_distribution.proofs.PeriodLemmas.{ended_untaken, ended_carried, events_still, free_still, has_own, if_ended, if_on, last_is, periods_still, starts_still, ended_facts}
-use Rattle.base_records.proofs.KindLemmas.{is_ok}
 use Rattle.mod_distribution.proofs.MarkLemmas.{goes_on-step, goes_on-then, in_step-same}
-use Rattle.mod_allocation.proofs.LoopLemmas.{told_more}
+use Rattle.base_records.proofs.KindLemmas.{is_ok}
 use Rattle.mod_distribution.proofs.distr.Distr.end_period.Goals as goal
 
 pub end_period-requires : goal.end_period-requires

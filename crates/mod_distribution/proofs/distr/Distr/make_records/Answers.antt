@@ -1,16 +1,12 @@
-use Rattle.std.proofs.Common.{◌∙◌, sym, ap, subst, refl}
+use Rattle.std.proofs.Common.{◌∙◌, sym, ap, subst, refl, Err}
 use Rattle.std.proofs.lemmas.Result.{err_from_is_err_and}
 use Rattle.base_records.proofs.KindLemmas.{on_ok, is_ok}
 use Rattle.rule_modules.specs.Distribution.{distribution_told}
 use Rattle.base_roles.specs.World.{created}
 use Rattle.mod_allocation.specs.Calls.{purse_at}
-use Rattle.mod_periods.specs.Kept.{current_of}
-use Rattle.mod_periods.specs.Stands.{IsKept}
-use Rattle.mod_distribution.specs.Kept.{KeptShared, SharedGoesOn, distributed}
-use Rattle.mod_distribution.specs.Stands.{KeepsShared}
-use Rattle.mod_distribution.proofs.CarryLemmas.{told_wants}
-use Rattle.mod_distribution.proofs.PeriodLemmas.{made_told}
-use Rattle.std.specs.Prelude.{Err}
+use Rattle.mod_periods.specs.{Kept.current_of, Stands.IsKept}
+use Rattle.mod_distribution.specs.{Kept.{KeptShared, SharedGoesOn, distributed}, Stands.KeepsShared}
+use Rattle.mod_distribution.proofs.{CarryLemmas.told_wants, PeriodLemmas.made_told}
 use Rattle.mod_distribution.proofs.MarkLemmas.{goes_on-step, in_step-same}
 use Rattle.mod_distribution.proofs.distr.Distr.make_records.Goals as goal
 

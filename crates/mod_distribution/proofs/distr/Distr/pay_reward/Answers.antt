@@ -1,22 +1,14 @@
-use Rattle.std.proofs.Common.{◌∙◌, ◌++◌, [], ◌∷◌, Ok, refl, sym, ap, subst, append-nil}
-use Rattle.std.specs.Prelude.{is_some, Err}
+use Rattle.std.proofs.Common.{◌∙◌, ◌++◌, [], ◌∷◌, Ok, refl, sym, ap, subst, append-nil, is_some, Err}
 use Rattle.std.proofs.lemmas.Result.{err_from_is_err_and}
 use Rattle.base_roles.specs.declared.facts.Fact.TheVariants as fact
-use Rattle.base_roles.specs.Ground.{seen}
-use Rattle.base_roles.specs.World.{View}
-use Rattle.mod_allocation.specs.Calls.{purse_at}
-use Rattle.mod_allocation.specs.Owed.{AreWithin, IsMoved, nothing_more}
-use Rattle.mod_periods.specs.Kept.{info_of}
-use Rattle.mod_periods.specs.Scenes.{HasPeriods}
-use Rattle.mod_periods.specs.Stands.{IsKept}
-use Rattle.mod_distribution.specs.Calls.{reward_paid}
-use Rattle.mod_distribution.specs.Kept.{KeptShared, payee_in, SharedGoesOn, distributed}
-use Rattle.mod_distribution.specs.Stands.{KeepsShared}
-use Rattle.mod_distribution.proofs.CarryLemmas.{wants}
+use Rattle.base_roles.specs.{Ground.seen, World.View}
+use Rattle.mod_allocation.{specs.{Calls.purse_at, Owed.{AreWithin, IsMoved, nothing_more}}, proofs.LoopLemmas.told_more}
+use Rattle.mod_allocation.proofs.AllocateLemmas.{told_behind}
+use Rattle.mod_periods.specs.{Kept.info_of, Scenes.HasPeriods, Stands.IsKept}
+use Rattle.mod_distribution.specs.{Calls.reward_paid, Kept.{KeptShared, payee_in, SharedGoesOn, distributed}}
+use Rattle.mod_distribution.{specs.Stands.KeepsShared, proofs.CarryLemmas.wants}
 use Rattle.mod_distribution.proofs.PayLemmas.{enough_for, payment_carried, purse_still, stopped_gone, stopped_periods, within_still}
 use Rattle.mod_distribution.proofs.MarkLemmas.{goes_on-step, in_step-same, undone-none}
-use Rattle.mod_allocation.proofs.LoopLemmas.{told_more}
-use Rattle.mod_allocation.proofs.AllocateLemmas.{told_behind}
 use Rattle.mod_distribution.proofs.distr.Distr.pay_reward.Goals as goal
 
 pub pay_out-requires-clause-known : goal.pay_out-requires-clause-known

@@ -1,16 +1,9 @@
-use Rattle.std.proofs.Common.{◌≡◌, ◌∙◌, ℕ, ◌<◌, ◌≤◌, Some, Ok, Err, sym, ap, subst, arith}
-use Rattle.std.specs.Prelude.{is_some}
+use Rattle.std.proofs.Common.{◌≡◌, ◌∙◌, ℕ, ◌<◌, ◌≤◌, Some, Ok, Err, sym, ap, subst, arith, is_some, option_copied}
 use Rattle.std.proofs.lemmas.Result.{err_from_is_err_and}
-use Rattle.mod_periods.specs.Kept.{info_of}
-use Rattle.mod_periods.specs.Scenes.{HasPeriods}
-use Rattle.std.specs.Option.{option_copied}
+use Rattle.mod_periods.specs.{Kept.info_of, Scenes.HasPeriods, Answers.Gives}
 use Rattle.rule_modules.specs.Periods.{periods_of, reward_after, start_of}
-use Rattle.mod_allocation.specs.Calls.{purse_at}
-use Rattle.mod_allocation.specs.Owed.{AreWithin, nothing_more}
-use Rattle.mod_periods.specs.Answers.{Gives}
-use Rattle.mod_distribution.specs.Calls.{increment_at_end, left_at_end}
-use Rattle.mod_distribution.specs.Kept.{distributed}
-use Rattle.mod_distribution.specs.Stands.{KeepsShared}
+use Rattle.mod_allocation.specs.{Calls.purse_at, Owed.{AreWithin, nothing_more}}
+use Rattle.mod_distribution.specs.{Calls.{increment_at_end, left_at_end}, Kept.distributed, Stands.KeepsShared}
 use Rattle.mod_distribution.proofs.PendingLemmas.{gives_ok, pending_ends, pending_fault, pending_unended, pending_wants, taken_at_end}
 use Rattle.mod_distribution.proofs.distr.Distr.pending.Goals as goal
 

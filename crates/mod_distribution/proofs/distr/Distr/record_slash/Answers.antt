@@ -1,16 +1,11 @@
-use Rattle.std.proofs.Common.{◌≢◌, ◌≤◌, ◌∙◌, refl, sym, ap, subst}
-use Rattle.std.specs.Prelude.{Ok, All}
+use Rattle.std.proofs.Common.{◌≢◌, ◌≤◌, ◌∙◌, refl, sym, ap, subst, Ok, All}
 use Rattle.std.proofs.lemmas.Result.{err_from_is_err_and}
-use Rattle.base_roles.specs.declared.params.Ctx.{Ctx}
-use Rattle.base_roles.specs.Ground.{seen}
-use Rattle.mod_periods.specs.Kept.{events_of}
-use Rattle.mod_periods.specs.Scenes.{HasPeriods}
-use Rattle.mod_periods.specs.Stands.{KeepsRewards}
-use Rattle.mod_periods.specs.Steps.{running}
+use Rattle.base_roles.specs.{declared.params.Ctx.Ctx, Ground.seen}
+use Rattle.mod_periods.specs.{Kept.events_of, Scenes.HasPeriods, Stands.KeepsRewards, Steps.running}
 use Rattle.mod_distribution.specs.Kept.{KeptShared, SharedGoesOn, distributed}
 use Rattle.mod_distribution.proofs.PeriodLemmas.{slash_unended, slash_told}
-use Rattle.base_records.proofs.KindLemmas.{is_ok}
 use Rattle.mod_distribution.proofs.MarkLemmas.{goes_on-step, goes_on-then, in_step-same}
+use Rattle.base_records.proofs.KindLemmas.{is_ok}
 use Rattle.mod_distribution.proofs.distr.Distr.record_slash.Goals as goal
 
 pub slash_event-requires-clause-validator : goal.slash_event-requires-clause-validator

@@ -1,23 +1,14 @@
-use Rattle.std.proofs.Common.{◌∙◌, [], refl, sym, ap, subst}
-use Rattle.std.specs.Prelude.{is_some, Err}
+use Rattle.std.proofs.Common.{◌∙◌, [], refl, sym, ap, subst, is_some, Err}
 use Rattle.std.proofs.lemmas.Result.{err_from_is_err_and}
-use Rattle.base_roles.specs.Ground.{seen}
-use Rattle.base_roles.specs.World.{View, removed}
-use Rattle.rule_modules.specs.Distribution.{distribution_told}
+use Rattle.base_roles.specs.{Ground.seen, World.{View, removed}}
+use Rattle.rule_modules.specs.{Distribution.distribution_told, Purses.pooled_told}
 use Rattle.base_records.proofs.KindLemmas.{on_ok, is_ok}
-use Rattle.rule_modules.specs.Purses.{pooled_told}
-use Rattle.mod_allocation.specs.Calls.{purse_at}
-use Rattle.mod_allocation.specs.Owed.{AreWithin, IsMoved, nothing_more}
-use Rattle.mod_periods.specs.Kept.{info_of}
-use Rattle.mod_periods.specs.Scenes.{HasPeriods}
-use Rattle.mod_distribution.specs.Kept.{KeptShared, payee_in, SharedGoesOn, distributed}
-use Rattle.mod_distribution.specs.Stands.{KeepsShared}
-use Rattle.mod_distribution.proofs.CarryLemmas.{told_wants}
-use Rattle.mod_distribution.proofs.PayLemmas.{enough_for}
-use Rattle.mod_distribution.proofs.PeriodLemmas.{removed_told}
+use Rattle.mod_allocation.specs.{Calls.purse_at, Owed.{AreWithin, IsMoved, nothing_more}}
+use Rattle.mod_allocation.proofs.{AllocateLemmas.told_behind, LoopLemmas.told_more}
+use Rattle.mod_periods.specs.{Kept.info_of, Scenes.HasPeriods}
+use Rattle.mod_distribution.specs.{Kept.{KeptShared, payee_in, SharedGoesOn, distributed}, Stands.KeepsShared}
+use Rattle.mod_distribution.proofs.{CarryLemmas.told_wants, PayLemmas.enough_for, PeriodLemmas.removed_told}
 use Rattle.mod_distribution.proofs.MarkLemmas.{commission_behind, facts_by, goes_on-step, in_step-same}
-use Rattle.mod_allocation.proofs.AllocateLemmas.{told_behind}
-use Rattle.mod_allocation.proofs.LoopLemmas.{told_more}
 use Rattle.mod_distribution.proofs.distr.Distr.remove_records.Goals as goal
 
 pub close-requires-clause-known : goal.close-requires-clause-known

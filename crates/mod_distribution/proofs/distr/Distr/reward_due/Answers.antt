@@ -1,16 +1,9 @@
-use Rattle.std.proofs.Common.{◌∙◌, ℕ, ◌<◌, ◌≤◌, sym, ap, subst, arith}
-use Rattle.std.specs.Prelude.{is_some}
+use Rattle.std.proofs.Common.{◌∙◌, ℕ, ◌<◌, ◌≤◌, sym, ap, subst, arith, is_some}
 use Rattle.std.proofs.lemmas.Result.{err_from_is_err_and}
-use Rattle.base_roles.specs.Entries.{at}
-use Rattle.base_roles.specs.Ground.{seen}
-use Rattle.base_roles.specs.Holdings.{IsBacked}
-use Rattle.base_roles.specs.Orders.{pair_cmp}
+use Rattle.base_roles.specs.{Entries.at, Ground.seen, Holdings.IsBacked, Orders.pair_cmp}
 use Rattle.base_records.proofs.KindLemmas.{is_ok}
-use Rattle.mod_periods.specs.Kept.{info_of}
-use Rattle.mod_periods.specs.Stands.{IsKept, KeepsRewards}
-use Rattle.mod_periods.specs.Steps.{running}
-use Rattle.mod_distribution.proofs.PayLemmas.{can_pay_still}
-use Rattle.mod_distribution.proofs.WithdrawLemmas.{due_carried, due_unended}
+use Rattle.mod_periods.specs.{Kept.info_of, Stands.{IsKept, KeepsRewards}, Steps.running}
+use Rattle.mod_distribution.proofs.{PayLemmas.can_pay_still, WithdrawLemmas.{due_carried, due_unended}}
 use Rattle.mod_distribution.proofs.distr.Distr.reward_due.Goals as goal
 
 more : (a b : ℕ) → 0 < a → a ≤ b → 0 < b

@@ -1,5 +1,4 @@
-use Rattle.std.proofs.Common.{ap}
-use Rattle.std.specs.Prelude.{not}
+use Rattle.std.proofs.Common.{ap, not}
 use Rattle.mod_distribution.proofs.StandLemmas.{payee_put, payee_stands}
 use Rattle.mod_distribution.proofs.distr.Distr.set_withdraw.Goals as goal
 

@@ -1,16 +1,11 @@
-use Rattle.std.proofs.Common.{sym, ap, subst, refl}
-use Rattle.std.specs.Prelude.{OnOk}
-use Rattle.base_roles.specs.Ground.{seen}
-use Rattle.base_roles.specs.Owing.{Lists}
+use Rattle.std.proofs.Common.{sym, ap, subst, refl, OnOk}
+use Rattle.base_roles.specs.{Ground.seen, Owing.Lists}
 use Rattle.base_records.proofs.KindLemmas.{is_ok}
-use Rattle.rule_modules.specs.Distribution.{Shared}
-use Rattle.rule_modules.specs.Withdrawals.{pool_spent}
+use Rattle.rule_modules.specs.{Distribution.Shared, Withdrawals.pool_spent}
 use Rattle.mod_allocation.specs.Owed.{CanPay}
 use Rattle.mod_distribution.specs.Calls.{PoolsOrRefuses, StandFor}
-use Rattle.mod_distribution.specs.Kept.{Distributed, SharedGoesOn, distributed, kept_with}
-use Rattle.mod_distribution.specs.Stands.{KeepsShared}
-use Rattle.mod_distribution.proofs.FundLemmas.{spent_stands, pool_carried}
-use Rattle.mod_distribution.proofs.ReadyLemmas.{can_be_paid}
+use Rattle.mod_distribution.specs.{Kept.{Distributed, SharedGoesOn, distributed, kept_with}, Stands.KeepsShared}
+use Rattle.mod_distribution.proofs.{FundLemmas.{spent_stands, pool_carried}, ReadyLemmas.can_be_paid}
 use Rattle.mod_distribution.proofs.MarkLemmas.{goes_on-step, in_step-same}
 use Rattle.mod_distribution.proofs.distr.Distr.spend.Goals as goal
 

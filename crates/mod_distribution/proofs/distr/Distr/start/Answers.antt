@@ -2,15 +2,10 @@ use Rattle.std.proofs.Common.{◌∙◌, ℕ, ◌<◌, ◌≤◌, ◌++◌, [], 
 use Rattle.base_roles.specs.declared.facts.Fact.TheVariants as fact
 use Rattle.base_roles.specs.Ground.{seen}
 use Rattle.base_records.proofs.KindLemmas.{on_ok, is_ok}
-use Rattle.rule_modules.specs.Distribution.{started}
-use Rattle.rule_modules.specs.Periods.{last_ended, periods_of, with_start}
-use Rattle.mod_periods.specs.Kept.{info_of}
-use Rattle.mod_periods.specs.Scenes.{HasPeriods}
-use Rattle.mod_periods.specs.Stands.{KeepsRewards, started_at}
-use Rattle.mod_distribution.specs.Kept.{KeptShared, SharedGoesOn, distributed}
-use Rattle.mod_distribution.specs.Stands.{KeepsShared}
-use Rattle.mod_distribution.proofs.CarryLemmas.{answers_given}
-use Rattle.mod_distribution.proofs.MarkLemmas.{goes_on-step, in_step-same, facts_by}
+use Rattle.rule_modules.specs.{Distribution.started, Periods.{last_ended, periods_of, with_start}}
+use Rattle.mod_periods.specs.{Kept.info_of, Scenes.HasPeriods, Stands.{KeepsRewards, started_at}}
+use Rattle.mod_distribution.specs.{Kept.{KeptShared, SharedGoesOn, distributed}, Stands.KeepsShared}
+use Rattle.mod_distribution.proofs.{CarryLemmas.answers_given, MarkLemmas.{goes_on-step, in_step-same, facts_by}}
 use Rattle.mod_distribution.proofs.distr.Distr.start.Goals as goal
 
 more : (a b : ℕ) → 0 < a → a ≤ b → 0 < b

@@ -1,17 +1,14 @@
-use Rattle.std.proofs.Common.{◌≡◌, ◌∙◌, [], ◌==◌, Ok, sym, ap, subst, refl}
-use Rattle.std.specs.Prelude.{is_some, Err}
+use Rattle.std.proofs.Common.{◌≡◌, ◌∙◌, [], ◌==◌, Ok, sym, ap, subst, refl, is_some, Err}
 use Rattle.std.proofs.lemmas.Result.{err_from_is_err_and, IfOk-weaker, IfErr-weaker}
 use Rattle.rule_modules.specs.Distribution.{current_taken}
 use Rattle.mod_sums.specs.Faults.{IsExcessOf}
-use Rattle.mod_allocation.specs.Calls.{current_out, purse_at}
-use Rattle.mod_allocation.specs.Owed.{AreWithin, nothing_more}
+use Rattle.mod_allocation.specs.{Calls.{current_out, purse_at}, Owed.{AreWithin, nothing_more}}
 use Rattle.mod_allocation.proofs.AnswerLemmas.{wanting}
 use Rattle.mod_periods.specs.Scenes.{HasPeriods}
 use Rattle.mod_distribution.proofs.PayLemmas.{purse_taken, within_still}
 use Rattle.mod_distribution.proofs.PeriodLemmas.{is_zero, not_zero, taken_pooled, taken_shared, taken_over, untold}
+use Rattle.mod_distribution.{proofs.MarkLemmas.{goes_on-step, in_step-same}, specs.Kept.{SharedGoesOn, distributed}}
 use Rattle.base_records.proofs.KindLemmas.{is_ok}
-use Rattle.mod_distribution.specs.Kept.{SharedGoesOn, distributed}
-use Rattle.mod_distribution.proofs.MarkLemmas.{goes_on-step, in_step-same}
 use Rattle.mod_distribution.proofs.distr.Distr.take_current.Goals as goal
 
 pub take_current-requires-clause-known : goal.take_current-requires-clause-known

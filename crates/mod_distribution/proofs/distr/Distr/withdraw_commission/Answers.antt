@@ -1,19 +1,12 @@
-use Rattle.std.proofs.Common.{◌∙◌, [], sym, ap, subst, refl}
-use Rattle.base_roles.specs.declared.refusal.Refusal.TheVariants.{NoCommission}
-use Rattle.base_roles.specs.Ground.{seen}
-use Rattle.base_roles.specs.World.{View}
+use Rattle.std.proofs.Common.{◌∙◌, [], sym, ap, subst, refl, Ok, Err}
+use Rattle.base_roles.specs.{declared.refusal.Refusal.TheVariants.NoCommission, Ground.seen, World.View}
 use Rattle.rule_modules.specs.Withdrawals.{commission_withdrawn}
-use Rattle.mod_allocation.specs.Calls.{coins_in, commission_out}
-use Rattle.mod_allocation.specs.Owed.{AreWithin, IsMoved, nothing_more}
-use Rattle.mod_distribution.specs.Kept.{KeptShared, SharedGoesOn, distributed}
-use Rattle.mod_distribution.proofs.CarryLemmas.{message_refused}
-use Rattle.mod_distribution.proofs.PayLemmas.{enough_for}
-use Rattle.mod_distribution.proofs.PoolLemmas.{commission_carried, no_commission}
-use Rattle.mod_distribution.proofs.ReadyLemmas.{can_be_paid, none_else, owed_within}
-use Rattle.mod_distribution.proofs.StandLemmas.{commission_stands}
-use Rattle.std.specs.Prelude.{Ok, Err}
-use Rattle.std.proofs.lemmas.Result.{err_from_is_err_and}
+use Rattle.mod_allocation.specs.{Calls.{coins_in, commission_out}, Owed.{AreWithin, IsMoved, nothing_more}}
+use Rattle.mod_distribution.{specs.Kept.{KeptShared, SharedGoesOn, distributed}, proofs.CarryLemmas.message_refused}
+use Rattle.mod_distribution.proofs.{PayLemmas.enough_for, PoolLemmas.{commission_carried, no_commission}}
+use Rattle.mod_distribution.proofs.{ReadyLemmas.{can_be_paid, none_else, owed_within}, StandLemmas.commission_stands}
 use Rattle.mod_distribution.proofs.MarkLemmas.{goes_on-step, in_step-same}
+use Rattle.std.proofs.lemmas.Result.{err_from_is_err_and}
 use Rattle.base_roles.specs.declared.faults.MessageFault.TheVariants as stop
 use Rattle.mod_distribution.proofs.distr.Distr.withdraw_commission.Goals as goal
 

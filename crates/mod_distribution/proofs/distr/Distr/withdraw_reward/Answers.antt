@@ -1,14 +1,9 @@
-use Rattle.std.proofs.Common.{◌≡◌, sym, subst, rules}
-use Rattle.std.specs.Prelude.{Err}
-use Rattle.base_roles.specs.declared.refusal.Refusal.TheVariants.{Overflow}
-use Rattle.base_roles.specs.Ground.{seen}
-use Rattle.base_roles.specs.Flow.{stopping}
+use Rattle.std.proofs.Common.{◌≡◌, sym, subst, rules, Err}
+use Rattle.base_roles.specs.{declared.refusal.Refusal.TheVariants.Overflow, Ground.seen, Flow.stopping}
 use Rattle.base_roles.specs.Stops.{stop_of_hook}
 use Rattle.rule_modules.specs.Distribution.{reward_renewed}
-use Rattle.mod_distribution.specs.Calls.{CarriesOutOrRefuses}
-use Rattle.mod_distribution.proofs.CarryLemmas.{message, message_fault}
-use Rattle.mod_distribution.proofs.ReadyLemmas.{can_be_paid, has_started}
-use Rattle.mod_distribution.proofs.StandLemmas.{renewed_stands}
+use Rattle.mod_distribution.{specs.Calls.CarriesOutOrRefuses, proofs.CarryLemmas.{message, message_fault}}
+use Rattle.mod_distribution.proofs.{ReadyLemmas.{can_be_paid, has_started}, StandLemmas.renewed_stands}
 use Rattle.mod_distribution.proofs.WithdrawLemmas.{renewed_carried, renewed_unpaid, renewed_unstarted}
 use Rattle.mod_distribution.proofs.distr.Distr.withdraw_reward.Goals as goal
 

@@ -1,8 +1,7 @@
 use Rattle.std.proofs.lemmas.Result.{err_from_is_err_and}
 use Rattle.base_roles.specs.Ground.{seen}
 use Rattle.rule_modules.specs.Distribution.{ended}
-use Rattle.mod_distribution.proofs.CarryLemmas.{told_fault, told_left}
-use Rattle.mod_distribution.proofs.ReadyLemmas.{has_records}
+use Rattle.mod_distribution.proofs.{CarryLemmas.{told_fault, told_left}, ReadyLemmas.has_records}
 use Rattle.mod_distribution.proofs.hooks.DistrStakingHooks.before_delegation_created.Goals as goal
 
 pub end_period-requires-clause-records : goal.end_period-requires-clause-records

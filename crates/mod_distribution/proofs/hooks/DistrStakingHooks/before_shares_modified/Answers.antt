@@ -1,8 +1,7 @@
 use Rattle.std.proofs.lemmas.Result.{err_from_is_err_and}
 use Rattle.base_roles.specs.Ground.{seen}
 use Rattle.rule_modules.specs.Distribution.{reward_withdrawn}
-use Rattle.mod_distribution.proofs.CarryLemmas.{told_fault, told_left}
-use Rattle.mod_distribution.proofs.ReadyLemmas.{can_be_paid, has_started}
+use Rattle.mod_distribution.proofs.{CarryLemmas.{told_fault, told_left}, ReadyLemmas.{can_be_paid, has_started}}
 use Rattle.mod_distribution.proofs.hooks.DistrStakingHooks.before_shares_modified.Goals as goal
 
 pub take_reward-requires-clause-started : goal.take_reward-requires-clause-started

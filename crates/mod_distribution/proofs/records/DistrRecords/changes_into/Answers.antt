@@ -1,10 +1,7 @@
-use Rattle.std.proofs.Common.{◌≡◌, ◌++◌, List, subst}
-use Rattle.std.specs.Prelude.{Bool, OnOk}
-use Rattle.base_roles.specs.declared.items.Item.{Item}
-use Rattle.base_roles.specs.Items.{AreChanges}
+use Rattle.std.proofs.Common.{◌≡◌, ◌++◌, List, subst, Bool, OnOk}
+use Rattle.base_roles.specs.{declared.items.Item.Item, Items.AreChanges}
 use Rattle.base_records.proofs.KindLemmas.{added-twice, on_ok}
-use Rattle.mod_distribution.specs.Kept.{Distributed, distributed}
-use Rattle.mod_distribution.specs.Items.{items_of}
+use Rattle.mod_distribution.specs.{Kept.{Distributed, distributed}, Items.items_of}
 use Rattle.mod_distribution.proofs.ItemLemmas.{changes_all, record_items, shared_items}
 use Rattle.mod_distribution.proofs.records.DistrRecords.changes_into.Goals as goal
 

@@ -1,6 +1,5 @@
 use Rattle.std.proofs.Common.{◌≢◌, ◌∙◌, [], sym, ap, subst}
-use Rattle.mod_distribution.specs.Kept.{kept_with}
-use Rattle.mod_distribution.proofs.MarkLemmas.{in_step-popped, marks_popped, some_open}
+use Rattle.mod_distribution.{specs.Kept.kept_with, proofs.MarkLemmas.{in_step-popped, marks_popped, some_open}}
 use Rattle.mod_distribution.proofs.records.DistrRecords.forget.Goals as goal
 
 pub forget-requires : goal.forget-requires

@@ -1,8 +1,7 @@
 use Rattle.std.proofs.Common.{subst}
 use Rattle.base_roles.specs.Items.{IsOnce}
 use Rattle.base_records.proofs.KindLemmas.{on_ok}
-use Rattle.mod_distribution.specs.Items.{items_of}
-use Rattle.mod_distribution.proofs.ItemLemmas.{once_all, record_items, shared_items}
+use Rattle.mod_distribution.{specs.Items.items_of, proofs.ItemLemmas.{once_all, record_items, shared_items}}
 use Rattle.mod_distribution.proofs.records.DistrRecords.items_into.Goals as goal
 
 pub known-requires : goal.known-requires

@@ -1,13 +1,10 @@
-use Rattle.std.proofs.Common.{◌∙◌, refl, sym, ap, subst}
-use Rattle.std.specs.Prelude.{◌||◌}
-use Rattle.base_roles.specs.Items.{HasRoom, IsAdded}
+use Rattle.std.proofs.Common.{◌∙◌, refl, sym, ap, subst, ◌||◌}
+use Rattle.base_roles.specs.{Items.{HasRoom, IsAdded}, Entries.with}
 use Rattle.base_types.specs.Orders.{addr_cmp}
-use Rattle.base_roles.specs.Entries.{with}
 use Rattle.base_records.proofs.KindLemmas.{added-at}
 use Rattle.mod_allocation.specs.Items.{is_shared}
 use Rattle.mod_periods.specs.Items.{is_record}
-use Rattle.mod_distribution.specs.Kept.{distributed, kept_with}
-use Rattle.mod_distribution.specs.Items.{items_of}
+use Rattle.mod_distribution.specs.{Kept.{distributed, kept_with}, Items.items_of}
 use Rattle.mod_distribution.proofs.ItemLemmas.{first_or, loaded, no_payee, none_spent, of_kind, payee_added, record_items, room_in_records, room_in_shared, second_or, shared_items, unloaded}
 use Rattle.mod_distribution.proofs.MarkLemmas.{marks_same}
 use Rattle.mod_distribution.proofs.records.DistrRecords.load.Goals as goal

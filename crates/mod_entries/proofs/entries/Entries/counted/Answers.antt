@@ -1,10 +1,8 @@
-use Rattle.std.proofs.Common.{◌≡◌, ◌∙◌, ◌+◌, Some, length, sym, ap, arith}
-use Rattle.std.specs.Prelude.{map, option_map, sum}
+use Rattle.std.proofs.Common.{◌≡◌, ◌∙◌, ◌+◌, Some, length, sym, ap, arith, map, option_map, sum}
 use Rattle.base_table.specs.Tabled.{entry_above}
 use Rattle.base_records.proofs.WalkLemmas.{walk-end}
 use Rattle.rule_modules.specs.EntrySlashes.{counted, counted_of}
-use Rattle.mod_entries.specs.Slashed.{all_counted}
-use Rattle.mod_entries.specs.Sources.{from_operator}
+use Rattle.mod_entries.specs.{Slashed.all_counted, Sources.from_operator}
 use Rattle.mod_entries.proofs.CountLemmas.{count-next, left_is, where-shorter}
 use Rattle.mod_entries.proofs.SourceLemmas.{next-found, next-is, next-own, no_entry, own-again, own-ascends}
 use Rattle.mod_entries.proofs.entries.Entries.counted.Goals as goal

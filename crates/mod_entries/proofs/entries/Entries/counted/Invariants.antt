@@ -1,8 +1,7 @@
 use Rattle.std.proofs.Common.{◌≡◌, ◌+◌, ◌*◌, ◌^◌, ◌≤◌, length}
 use Rattle.base_records.proofs.WalkLemmas.{left_of}
 use Rattle.rule_modules.specs.EntrySlashes.{counted}
-use Rattle.mod_entries.specs.Slashed.{all_counted}
-use Rattle.mod_entries.specs.Sources.{from_operator}
+use Rattle.mod_entries.specs.{Slashed.all_counted, Sources.from_operator}
 use Rattle.mod_entries.proofs.entries.Entries.counted.Given as goal
 
 abbrev pub invariant-loop-key : goal.invariant-loop-key

@@ -1,5 +1,4 @@
-use Rattle.std.proofs.Common.{◌∙◌, ◌^◌, ◌≤◌, [], length, sym, ap, subst}
-use Rattle.std.specs.Prelude.{All, map, unwrap_or}
+use Rattle.std.proofs.Common.{◌∙◌, ◌^◌, ◌≤◌, [], length, sym, ap, subst, All, map, unwrap_or}
 use Rattle.rule_modules.specs.EntrySlashes.{counted_of}
 use Rattle.mod_entries.proofs.SourceLemmas.{all-found}
 use Rattle.mod_entries.proofs.entries.Entries.counted_at.Goals as goal

@@ -1,8 +1,6 @@
 use Rattle.std.proofs.Common.{◌≡◌, sym, ap, subst, ◌∙◌, is_some}
-use Rattle.mod_periods.specs.Kept.{current_of, info_of}
+use Rattle.mod_periods.{specs.{Kept.{current_of, info_of}, Stands.KeepsRewards}, proofs.ClearedLemmas.clear-stands}
 use Rattle.rule_modules.specs.Periods.{without_periods}
-use Rattle.mod_periods.specs.Stands.{KeepsRewards}
-use Rattle.mod_periods.proofs.ClearedLemmas.{clear-stands}
 use Rattle.mod_periods.proofs.f1.F1.clear.Goals as goal
 
 pub returns-clause-cleared : goal.returns-clause-cleared

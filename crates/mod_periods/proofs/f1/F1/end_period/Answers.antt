@@ -1,8 +1,6 @@
 use Rattle.std.proofs.Common.{◌≡◌, ℕ, ◌∷◌, [], ◌++◌, refl, sym, ap, subst, ◌∙◌, is_some}
 use Rattle.base_roles.specs.declared.facts.Fact.TheVariants.{Period}
-use Rattle.mod_periods.specs.Kept.{current_of}
-use Rattle.mod_periods.specs.Stands.{KeepsRewards, IsKept}
-use Rattle.mod_periods.proofs.GivesLemmas.{on_limit}
+use Rattle.mod_periods.{specs.{Kept.current_of, Stands.{KeepsRewards, IsKept}}, proofs.GivesLemmas.on_limit}
 use Rattle.mod_periods.proofs.RatioLemmas.{last-stands, end-answers, end-faults}
 use Rattle.mod_periods.proofs.f1.F1.end_period.Goals as goal
 

@@ -1,8 +1,6 @@
 use Rattle.std.proofs.Common.{◌≡◌, sym, ap, subst, ◌∙◌}
-use Rattle.mod_periods.specs.Kept.{current_of}
+use Rattle.mod_periods.{specs.{Kept.current_of, Stands.KeepsRewards}, proofs.InitLemmas.init-stands}
 use Rattle.rule_modules.specs.Periods.{initial_records, with_periods}
-use Rattle.mod_periods.specs.Stands.{KeepsRewards}
-use Rattle.mod_periods.proofs.InitLemmas.{init-stands}
 use Rattle.mod_periods.proofs.f1.F1.init.Goals as goal
 
 pub returns-clause-made : goal.returns-clause-made

@@ -1,6 +1,5 @@
 use Rattle.std.proofs.Common.{sym, subst}
-use Rattle.mod_periods.specs.Stands.{KeepsRewards, no_rewards}
-use Rattle.mod_periods.proofs.InitLemmas.{none-kept}
+use Rattle.mod_periods.{specs.Stands.{KeepsRewards, no_rewards}, proofs.InitLemmas.none-kept}
 use Rattle.mod_periods.proofs.f1.F1.new.Goals as goal
 
 pub returns-clause-kept : goal.returns-clause-kept

@@ -1,7 +1,5 @@
 use Rattle.std.proofs.Common.{sym, ap, subst, ◌∙◌}
-use Rattle.mod_periods.specs.Stands.{KeepsRewards, IsKept}
-use Rattle.mod_periods.specs.Steps.{running}
-use Rattle.mod_periods.proofs.EarnLemmas.{found}
+use Rattle.mod_periods.{specs.{Stands.{KeepsRewards, IsKept}, Steps.running}, proofs.EarnLemmas.found}
 use Rattle.mod_periods.proofs.GivesLemmas.{can-reward, reward-gives}
 use Rattle.mod_periods.proofs.f1.F1.reward.Goals as goal
 

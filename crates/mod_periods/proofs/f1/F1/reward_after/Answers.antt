@@ -1,7 +1,5 @@
 use Rattle.std.proofs.Common.{sym, ap, subst, ◌∙◌, is_some}
-use Rattle.mod_periods.specs.Kept.{current_of}
-use Rattle.mod_periods.specs.Stands.{KeepsRewards, IsKept}
-use Rattle.mod_periods.proofs.RatioLemmas.{last-stands}
+use Rattle.mod_periods.{specs.{Kept.current_of, Stands.{KeepsRewards, IsKept}}, proofs.RatioLemmas.last-stands}
 use Rattle.mod_periods.proofs.GivesLemmas.{can-reward-after, after-gives, after-excess}
 use Rattle.mod_periods.proofs.f1.F1.reward_after.Goals as goal
 

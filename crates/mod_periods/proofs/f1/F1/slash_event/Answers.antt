@@ -1,9 +1,6 @@
-use Rattle.std.proofs.Common.{◌≡◌, ◌≢◌, ◌≤◌, sym, ap, subst, ◌∙◌, is_some}
-use Rattle.std.specs.Prelude.{All}
-use Rattle.mod_periods.specs.Kept.{current_of, events_of, record_of, referred}
-use Rattle.mod_periods.specs.Stands.{KeepsRewards, IsKept}
-use Rattle.mod_periods.specs.Steps.{running}
-use Rattle.mod_periods.proofs.CallLemmas.{count-few, slash-answers}
+use Rattle.std.proofs.Common.{◌≡◌, ◌≢◌, ◌≤◌, sym, ap, subst, ◌∙◌, is_some, All}
+use Rattle.mod_periods.specs.{Kept.{current_of, events_of, record_of, referred}, Stands.{KeepsRewards, IsKept}}
+use Rattle.mod_periods.{specs.Steps.running, proofs.CallLemmas.{count-few, slash-answers}}
 use Rattle.mod_periods.proofs.f1.F1.slash_event.Goals as goal
 
 pub refer-requires : goal.refer-requires

@@ -1,10 +1,7 @@
-use Rattle.std.proofs.Common.{◌≡◌, ◌-◌, ◌∷◌, [], ◌++◌, sym, ap, subst, ◌∙◌, is_some}
-use Rattle.std.specs.Prelude.{unwrap_or}
+use Rattle.std.proofs.Common.{◌≡◌, ◌-◌, ◌∷◌, [], ◌++◌, sym, ap, subst, ◌∙◌, is_some, unwrap_or}
 use Rattle.base_roles.specs.declared.facts.Fact.TheVariants.{Started}
-use Rattle.mod_periods.specs.Kept.{current_of, info_of, record_of, referred}
-use Rattle.mod_periods.specs.Stands.{KeepsRewards, IsKept}
-use Rattle.mod_periods.proofs.CallLemmas.{count-few, last-is, start-answers}
-use Rattle.mod_periods.proofs.RatioLemmas.{running-above}
+use Rattle.mod_periods.specs.{Kept.{current_of, info_of, record_of, referred}, Stands.{KeepsRewards, IsKept}}
+use Rattle.mod_periods.proofs.{CallLemmas.{count-few, last-is, start-answers}, RatioLemmas.running-above}
 use Rattle.mod_periods.proofs.f1.F1.start.Goals as goal
 
 pub refer-requires : goal.refer-requires

@@ -1,7 +1,5 @@
 use Rattle.std.proofs.Common.{◌≡◌, sym, ap, subst, ◌∙◌}
-use Rattle.mod_periods.specs.Kept.{released}
-use Rattle.mod_periods.specs.Stands.{KeepsRewards}
-use Rattle.mod_periods.proofs.CallLemmas.{stop-answers}
+use Rattle.mod_periods.{specs.{Kept.released, Stands.KeepsRewards}, proofs.CallLemmas.stop-answers}
 use Rattle.mod_periods.proofs.f1.F1.stop.Goals as goal
 
 pub returns-clause-stopped : goal.returns-clause-stopped

@@ -1,7 +1,6 @@
 use Rattle.std.proofs.Common.{◌∙◌, ap}
 use Rattle.base_records.proofs.KindLemmas.{changed-at}
-use Rattle.mod_periods.specs.Items.{items_of}
-use Rattle.mod_periods.proofs.ItemLemmas.{current-apart, historical-apart, starts-apart}
+use Rattle.mod_periods.{specs.Items.items_of, proofs.ItemLemmas.{current-apart, historical-apart, starts-apart}}
 use Rattle.mod_periods.proofs.records.F1Records.changes_into.Goals as goal
 
 pub changes_into-requires : goal.changes_into-requires

@@ -1,7 +1,6 @@
 use Rattle.std.proofs.Common.{◌∙◌, ap}
 use Rattle.base_records.proofs.KindLemmas.{once-at, listed-at}
-use Rattle.mod_periods.specs.Items.{items_of}
-use Rattle.mod_periods.proofs.ItemLemmas.{current-apart, historical-apart, starts-apart}
+use Rattle.mod_periods.{specs.Items.items_of, proofs.ItemLemmas.{current-apart, historical-apart, starts-apart}}
 use Rattle.mod_periods.proofs.records.F1Records.items_into.Goals as goal
 
 pub items_into-requires : goal.items_into-requires

@@ -1,11 +1,10 @@
-use Rattle.std.proofs.Common.{ap, sym, subst, ◌∙◌, arith, length, drop, [], ◌+◌}
+use Rattle.std.proofs.Common.{ap, sym, subst, ◌∙◌, arith, length, drop, [], ◌+◌, Bor}
 use Rattle.std.proofs.lemmas.Result.{IfOk-weaker}
-use Rattle.std.proofs.Common.{Bor}
 use Rattle.base_roles.specs.declared.entities.Historical.{Historical}
 use Rattle.mod_periods.specs.Earning.{stretch_added}
 use Rattle.mod_periods.proofs.EarnLemmas.{IsEarning, item-of, none-left, found, found-some, excess-of, err_weaker, moved, earn-begins, earn-step, earn-skip, earn-fails, earn-ends, earn-over, enough-here, enough-end, stands-here, fraction-here}
-use Rattle.mod_periods.proofs.tables.Tables.earned.Goals as goal
 use Rattle.mod_periods.proofs.tables.Tables.earned.Goals.{then-event-info+in-Ok, else-event-info}
+use Rattle.mod_periods.proofs.tables.Tables.earned.Goals as goal
 
 pub loop-event-init : goal.loop-event-init
 loop-event-init g c =

@@ -1,6 +1,5 @@
 use Rattle.std.proofs.Common.{◌≤◌, ◌+◌, length, drop, ℕ}
-use Rattle.mod_periods.specs.Earning.{CanEarn}
-use Rattle.mod_periods.proofs.EarnLemmas.{IsEarning}
+use Rattle.mod_periods.{specs.Earning.CanEarn, proofs.EarnLemmas.IsEarning}
 use Rattle.mod_periods.proofs.tables.Tables.earned.Given as goal
 
 abbrev pub invariant-loop-event : goal.invariant-loop-event

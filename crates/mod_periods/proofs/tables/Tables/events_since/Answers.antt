@@ -1,12 +1,9 @@
-use Rattle.std.proofs.Common.{◌≡◌, ap, sym, subst, ◌∙◌, arith, true, false, Bool, ◌++◌, [], ◌∷◌, length, length-append}
-use Rattle.std.specs.Prelude.{ℕ, not, refl, option_map, is_some, if◌then◌else◌}
-use Rattle.std.proofs.lemmas.Map.Text.{is_eq-slice_cmp}
-use Rattle.std.specs.BTreeMap.Range.{entries_between}
+use Rattle.std.proofs.Common.{◌≡◌, ap, sym, subst, ◌∙◌, arith, true, false, Bool, ◌++◌, [], ◌∷◌, length, length-append, ℕ, not, refl, option_map, is_some, if◌then◌else◌}
+use Rattle.std.{proofs.lemmas.Map.Text.is_eq-slice_cmp, specs.BTreeMap.Range.entries_between}
 use Rattle.std.specs.declared.ops.Bound.TheVariants.{Included, Unbounded}
 use Rattle.base_roles.specs.Orders.{same_addr}
 use Rattle.base_table.specs.Tabled.{first_of}
-use Rattle.mod_periods.specs.Earning.{events_since}
-use Rattle.mod_periods.specs.Kept.{event_cmp, events_of}
+use Rattle.mod_periods.specs.{Earning.events_since, Kept.{event_cmp, events_of}}
 use Rattle.mod_periods.proofs.SinceLemmas.{IsRest, own_events, ahead, rest-begins, rest-listed, cons_of, ahead-falls, listed-all, listed-more}
 use Rattle.mod_periods.proofs.tables.Tables.events_since.Goals as goal
 

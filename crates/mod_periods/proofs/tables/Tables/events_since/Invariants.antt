@@ -1,9 +1,6 @@
-use Rattle.std.proofs.Common.{◌≡◌, ◌≤◌, ◌+◌, ◌++◌, length}
-use Rattle.std.specs.Prelude.{is_some, option_map, if◌then◌else◌}
+use Rattle.std.proofs.Common.{◌≡◌, ◌≤◌, ◌+◌, ◌++◌, length, is_some, option_map, if◌then◌else◌}
 use Rattle.base_table.specs.Tabled.{first_of}
-use Rattle.mod_periods.specs.Earning.{events_since}
-use Rattle.mod_periods.specs.Kept.{events_of}
-use Rattle.mod_periods.proofs.EventLemmas.{Slashes}
+use Rattle.mod_periods.{specs.{Earning.events_since, Kept.events_of}, proofs.EventLemmas.Slashes}
 use Rattle.mod_periods.proofs.SinceLemmas.{IsRest, own_events, ahead}
 use Rattle.mod_periods.proofs.tables.Tables.events_since.Given as goal
 

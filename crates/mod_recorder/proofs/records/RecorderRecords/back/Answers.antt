@@ -1,5 +1,4 @@
-use Rattle.std.proofs.Common.{◌≡◌, ◌∙◌, true, [], ◌∷◌, ◌++◌, length, map, sym, ap, subst}
-use Rattle.std.specs.Option.{option_to_list}
+use Rattle.std.proofs.Common.{◌≡◌, ◌∙◌, true, [], ◌∷◌, ◌++◌, length, map, sym, ap, subst, option_to_list}
 use Rattle.mod_recorder.specs.Recorded.{Recorded, are_rising, noted_at}
 use Rattle.mod_recorder.proofs.RecordLemmas.{back_marks, back_settled, back_up}
 use Rattle.mod_recorder.proofs.records.RecorderRecords.back.Goals as goal

@@ -1,6 +1,5 @@
 use Rattle.std.proofs.Common.{◌≡◌, true, rules, [], ◌∷◌, ◌++◌, length, sym, subst}
-use Rattle.mod_recorder.specs.Recorded.{are_rising}
-use Rattle.mod_recorder.proofs.RecordLemmas.{marked_up}
+use Rattle.mod_recorder.{specs.Recorded.are_rising, proofs.RecordLemmas.marked_up}
 use Rattle.mod_recorder.proofs.records.RecorderRecords.mark.Goals as goal
 
 pub invariant_of-self-2 : goal.invariant_of-self-2

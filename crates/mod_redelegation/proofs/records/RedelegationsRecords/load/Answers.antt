@@ -1,14 +1,9 @@
 use Rattle.std.proofs.Common.{◌≡◌, ◌∙◌, refl, ap, subst}
-use Rattle.std.specs.List.Sorted.{IsStrictlySortedBy}
-use Rattle.std.specs.Map.{keys_of}
-use Rattle.base_roles.specs.declared.entities.RedelegationEntry.{RedelegationEntry}
-use Rattle.base_roles.specs.Entries.{with}
-use Rattle.base_roles.specs.Orders.{triple_cmp}
+use Rattle.std.specs.{List.Sorted.IsStrictlySortedBy, Map.keys_of}
+use Rattle.base_roles.specs.{declared.entities.RedelegationEntry.RedelegationEntry, Entries.with, Orders.triple_cmp}
 use Rattle.base_records.proofs.KindLemmas.{added-at}
 use Rattle.mod_entries.specs.Kept.{Kept}
-use Rattle.mod_redelegation.specs.Items.{items_of}
-use Rattle.mod_redelegation.proofs.ItemLemmas.{redelegation-added}
-use Rattle.mod_redelegation.proofs.OrderLemmas.{Key}
+use Rattle.mod_redelegation.{specs.Items.items_of, proofs.{ItemLemmas.redelegation-added, OrderLemmas.Key}}
 use Rattle.mod_redelegation.proofs.records.RedelegationsRecords.load.Goals as goal
 
 pub returns-clause-added : goal.returns-clause-added

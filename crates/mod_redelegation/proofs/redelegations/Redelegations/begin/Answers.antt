@@ -1,21 +1,13 @@
-use Rattle.std.proofs.Common.{◌≡◌, ◌∙◌, [], Some, sym, ap, subst, rules}
-use Rattle.std.specs.Prelude.{Ok, Err, is_some, length, is_none}
-use Rattle.base_roles.specs.Ground.{seen}
-use Rattle.base_roles.specs.Staked.{validator_at}
-use Rattle.base_roles.specs.Flow.{◌>>=◌}
-use Rattle.base_roles.specs.Stops.{stop_of_hook}
+use Rattle.std.proofs.Common.{◌≡◌, ◌∙◌, [], Some, sym, ap, subst, rules, Ok, Err, is_some, length, is_none}
+use Rattle.base_roles.specs.{Ground.seen, Staked.validator_at, Flow.{◌>>=◌}, Stops.stop_of_hook}
 use Rattle.base_roles.specs.declared.faults.MessageFault.TheVariants as stop
-use Rattle.rule_modules.specs.Delegating.{pool}
-use Rattle.rule_modules.specs.Redelegations.{redelegations_of, redelegated, appended, begin_info}
-use Rattle.rule_modules.specs.Unbonding.{shares_unbonded}
-use Rattle.rule_modules.proofs.SoundLemmas.{to_points}
-use Rattle.mod_staking.specs.Calls.{over, behind_log}
-use Rattle.mod_staking.specs.Scenes.{GoesOn}
-use Rattle.mod_entries.specs.Answers.{AnswersBoth}
-use Rattle.mod_redelegation.specs.Calls.{AreSoundLists}
-use Rattle.mod_entries.proofs.AnswerLemmas.{answers_refused, answers_fault}
-use Rattle.mod_redelegation.proofs.AskedLemmas.{asked-given, redelegated-asked, redelegated_from, moved_at}
+use Rattle.rule_modules.specs.{Delegating.pool, Redelegations.{redelegations_of, redelegated, appended, begin_info}}
+use Rattle.rule_modules.{specs.Unbonding.shares_unbonded, proofs.SoundLemmas.to_points}
+use Rattle.mod_staking.specs.{Calls.{over, behind_log}, Scenes.GoesOn}
 use Rattle.mod_staking.proofs.BackLemmas.{delegated-steps, holds-back}
+use Rattle.mod_entries.{specs.Answers.AnswersBoth, proofs.AnswerLemmas.{answers_refused, answers_fault}}
+use Rattle.mod_redelegation.specs.Calls.{AreSoundLists}
+use Rattle.mod_redelegation.proofs.AskedLemmas.{asked-given, redelegated-asked, redelegated_from, moved_at}
 use Rattle.mod_redelegation.proofs.EntryLemmas.{appended-sound}
 use Rattle.mod_redelegation.proofs.LeftLemmas.{out_is, some_out, room_for, out_most, still-there, held-more, held-now, has-origin}
 use Rattle.mod_redelegation.proofs.LoggedLemmas.{answers_begun, answers_stopped}

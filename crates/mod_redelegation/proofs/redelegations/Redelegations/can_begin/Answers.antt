@@ -1,7 +1,6 @@
 use Rattle.std.proofs.Common.{sym}
 use Rattle.base_roles.specs.Ground.{seen}
-use Rattle.mod_redelegation.proofs.AskedLemmas.{leaving-given}
-use Rattle.mod_redelegation.proofs.LeftLemmas.{removable}
+use Rattle.mod_redelegation.proofs.{AskedLemmas.leaving-given, LeftLemmas.removable}
 use Rattle.mod_redelegation.proofs.redelegations.Redelegations.can_begin.Goals as goal
 
 pub remove-out-requires-clause-tokens : goal.remove-out-requires-clause-tokens

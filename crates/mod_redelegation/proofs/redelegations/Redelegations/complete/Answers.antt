@@ -1,14 +1,11 @@
 use Rattle.std.proofs.Common.{◌≡◌, ◌∙◌, ◌+◌, drop, length, refl, sym, ap, subst, arith}
 use Rattle.rule_modules.specs.EntrySlashes.{redelegation_made}
 use Rattle.base_roles.specs.declared.entities.RedelegationEntry.{RedelegationEntry}
-use Rattle.mod_entries.specs.Kept.{Kept}
-use Rattle.mod_entries.specs.Walked.{keys_where, is_due, mature_entries}
-use Rattle.mod_entries.proofs.CountLemmas.{next_of, drop_end}
-use Rattle.mod_entries.proofs.DueLemmas.{due_few}
+use Rattle.mod_entries.specs.{Kept.Kept, Walked.{keys_where, is_due, mature_entries}}
+use Rattle.mod_entries.proofs.{CountLemmas.{next_of, drop_end}, DueLemmas.due_few}
 use Rattle.mod_redelegation.specs.Calls.{AreSoundLists}
 use Rattle.mod_redelegation.proofs.CompletedLemmas.{completed_at, completed-next, completed-end, completed-due, length_next, cost-first, cost-next, cost-all}
-use Rattle.mod_redelegation.proofs.EntryLemmas.{completed-sound}
-use Rattle.mod_redelegation.proofs.OrderLemmas.{Key}
+use Rattle.mod_redelegation.proofs.{EntryLemmas.completed-sound, OrderLemmas.Key}
 use Rattle.mod_redelegation.proofs.redelegations.Redelegations.complete.Goals as goal
 
 pub loop-key-init : goal.loop-key-init

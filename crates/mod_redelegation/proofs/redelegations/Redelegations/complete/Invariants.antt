@@ -1,7 +1,6 @@
 use Rattle.std.proofs.Common.{◌≡◌, ◌+◌, ◌*◌, ◌≤◌, drop, length}
 use Rattle.mod_entries.specs.Kept.{behind}
-use Rattle.mod_redelegation.specs.Calls.{AreSoundLists}
-use Rattle.mod_redelegation.proofs.CompletedLemmas.{completed_at}
+use Rattle.mod_redelegation.{specs.Calls.AreSoundLists, proofs.CompletedLemmas.completed_at}
 use Rattle.mod_redelegation.proofs.redelegations.Redelegations.complete.Given as goal
 
 abbrev pub invariant-loop-key : goal.invariant-loop-key

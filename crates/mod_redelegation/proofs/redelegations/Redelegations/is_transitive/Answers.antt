@@ -1,14 +1,9 @@
-use Rattle.std.proofs.Common.{◌≡◌, ◌∙◌, ◌+◌, true, List, Some, refl, length, sym, ap, subst, arith}
-use Rattle.std.specs.Prelude.{◌&&◌}
-use Rattle.std.specs.List.Sorted.{IsStrictlySortedBy}
-use Rattle.std.specs.Map.{keys_of}
-use Rattle.base_roles.specs.declared.entities.RedelegationEntry.{RedelegationEntry}
-use Rattle.mod_entries.specs.Kept.{Kept}
+use Rattle.std.proofs.Common.{◌≡◌, ◌∙◌, ◌+◌, true, List, Some, refl, length, sym, ap, subst, arith, ◌&&◌}
+use Rattle.std.specs.{List.Sorted.IsStrictlySortedBy, Map.keys_of}
+use Rattle.base_roles.specs.{declared.entities.RedelegationEntry.RedelegationEntry, Orders.{triple_cmp, same_addr}}
+use Rattle.mod_entries.{specs.Kept.Kept, proofs.CountLemmas.{where-shorter, walk-cost, all-left}}
 use Rattle.base_table.specs.Tabled.{entry_above}
-use Rattle.base_roles.specs.Orders.{triple_cmp, same_addr}
-use Rattle.mod_entries.proofs.CountLemmas.{where-shorter, walk-cost, all-left}
-use Rattle.mod_redelegation.specs.Own.{own_entries, is_own_or_none}
-use Rattle.mod_redelegation.proofs.OrderLemmas.{Key, triple_total}
+use Rattle.mod_redelegation.{specs.Own.{own_entries, is_own_or_none}, proofs.OrderLemmas.{Key, triple_total}}
 use Rattle.mod_redelegation.proofs.OwnLemmas.{own-ascends, own-all, own-transitive}
 use Rattle.mod_redelegation.proofs.TransitLemmas.{transit-next, transit-found}
 use Rattle.mod_redelegation.proofs.redelegations.Redelegations.is_transitive.Goals as goal

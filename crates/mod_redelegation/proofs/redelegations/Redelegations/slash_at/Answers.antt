@@ -1,15 +1,10 @@
-use Rattle.std.proofs.Common.{◌^◌, ◌≤◌, sym, subst}
-use Rattle.std.specs.Prelude.{All}
+use Rattle.std.proofs.Common.{◌^◌, ◌≤◌, sym, subst, All}
 use Rattle.std.proofs.lemmas.List.Elements.{All-weaker}
-use Rattle.base_roles.specs.Ground.{seen}
-use Rattle.base_roles.specs.Lent.{Unbonds, Following}
-use Rattle.base_roles.specs.Orders.{triple_cmp}
-use Rattle.rule_modules.specs.EntrySlashes.{targets_slashed}
-use Rattle.rule_modules.specs.Sound.{RedelegationIsSound}
+use Rattle.base_roles.specs.{Ground.seen, Lent.{Unbonds, Following}, Orders.triple_cmp}
+use Rattle.rule_modules.specs.{EntrySlashes.targets_slashed, Sound.RedelegationIsSound}
 use Rattle.mod_staking.specs.Calls.{behind_log}
 use Rattle.mod_entries.specs.Lists.{list_at}
-use Rattle.mod_redelegation.specs.Scenes.{LeavesBoth}
-use Rattle.mod_redelegation.proofs.EntryLemmas.{own-sound}
+use Rattle.mod_redelegation.{specs.Scenes.LeavesBoth, proofs.EntryLemmas.own-sound}
 use Rattle.mod_redelegation.proofs.redelegations.Redelegations.slash_at.Goals as goal
 
 pub slash_all-requires-clause-initials : goal.slash_all-requires-clause-initials

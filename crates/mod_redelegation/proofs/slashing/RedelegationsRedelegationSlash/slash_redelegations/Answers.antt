@@ -1,24 +1,13 @@
-use Rattle.std.proofs.Common.{◌≡◌, ◌∙◌, ◌+◌, List, drop, refl, sym, ap, subst, rules}
-use Rattle.std.specs.Prelude.{Ok, Err}
-use Rattle.base_roles.specs.Ground.{seen}
-use Rattle.base_roles.specs.Lent.{Unbonds, Following}
-use Rattle.base_roles.specs.Orders.{triple_cmp}
-use Rattle.base_roles.specs.Lent.{FollowsLent}
+use Rattle.std.proofs.Common.{◌≡◌, ◌∙◌, ◌+◌, List, drop, refl, sym, ap, subst, rules, Ok, Err}
+use Rattle.base_roles.specs.{Ground.seen, Lent.{Unbonds, Following, FollowsLent}, Orders.triple_cmp}
+use Rattle.base_roles.specs.declared.entities.RedelegationEntry.{RedelegationEntry}
 use Rattle.rule_modules.specs.EntrySlashes.{counted, targets_slashed, sources_slashed, redelegation_made, redelegations_slashed}
 use Rattle.mod_staking.specs.Calls.{behind_log}
-use Rattle.mod_entries.specs.Lists.{list_at, AreFew}
-use Rattle.mod_entries.specs.Kept.{Kept}
-use Rattle.mod_entries.specs.Slashed.{all_counted, is_from}
-use Rattle.mod_entries.specs.Walked.{keys_where}
-use Rattle.base_roles.specs.declared.entities.RedelegationEntry.{RedelegationEntry}
-use Rattle.std.specs.List.Sorted.{IsStrictlySortedBy}
-use Rattle.std.specs.Map.{keys_of}
+use Rattle.mod_entries.specs.{Lists.{list_at, AreFew}, Kept.Kept, Slashed.{all_counted, is_from}, Walked.keys_where}
 use Rattle.mod_entries.proofs.CountLemmas.{next_of, drop_end}
-use Rattle.mod_redelegation.specs.Scenes.{LeavesBoth}
-use Rattle.mod_redelegation.specs.Slashed.{keys_slashed}
-use Rattle.mod_redelegation.proofs.BothLemmas.{both-none, both-then}
-use Rattle.mod_redelegation.proofs.EntryLemmas.{are_few}
-use Rattle.mod_redelegation.proofs.GoesOnLemmas.{both_go-none, both_go-then}
+use Rattle.std.specs.{List.Sorted.IsStrictlySortedBy, Map.keys_of}
+use Rattle.mod_redelegation.{specs.{Scenes.LeavesBoth, Slashed.keys_slashed}, proofs.BothLemmas.{both-none, both-then}}
+use Rattle.mod_redelegation.proofs.{EntryLemmas.are_few, GoesOnLemmas.{both_go-none, both_go-then}}
 use Rattle.mod_redelegation.proofs.OrderLemmas.{Key, triple_order, triple_order_is}
 use Rattle.mod_redelegation.proofs.ReachedLemmas.{reached-first, reached-next, reached-err, reached-last, keys-next, keys-end, sources-keyed, follows-counted, follows-fault}
 use Rattle.mod_redelegation.proofs.slashing.RedelegationsRedelegationSlash.slash_redelegations.Goals as goal

@@ -1,10 +1,7 @@
 use Rattle.std.proofs.Common.{drop}
-use Rattle.base_roles.specs.Ground.{seen}
-use Rattle.base_roles.specs.Lent.{Unbonds, Following}
-use Rattle.base_roles.specs.Log.{Log}
+use Rattle.base_roles.specs.{Ground.seen, Lent.{Unbonds, Following}, Log.Log}
 use Rattle.mod_staking.specs.Calls.{behind_log}
-use Rattle.mod_redelegation.specs.Scenes.{IsBothScene, AreBothSlashed, BothGoOn}
-use Rattle.mod_redelegation.specs.Slashed.{keys_slashed}
+use Rattle.mod_redelegation.specs.{Scenes.{IsBothScene, AreBothSlashed, BothGoOn}, Slashed.keys_slashed}
 use Rattle.mod_redelegation.proofs.ReachedLemmas.{Reached}
 use Rattle.mod_redelegation.proofs.slashing.RedelegationsRedelegationSlash.slash_redelegations.Given as goal
 

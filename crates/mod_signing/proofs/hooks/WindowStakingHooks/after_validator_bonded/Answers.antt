@@ -1,11 +1,7 @@
-use Rattle.std.proofs.Common.{◌∙◌, ◌≤◌, None, length, take, refl, sym, ap, subst}
-use Rattle.std.specs.Option.{option_copied}
+use Rattle.std.proofs.Common.{◌∙◌, ◌≤◌, None, length, take, refl, sym, ap, subst, option_copied}
 use Rattle.rule_modules.specs.Window.{signing_started}
-use Rattle.mod_signing.specs.Calls.{begun_entry, ring_at}
-use Rattle.mod_signing.specs.Kept.{with_signed}
-use Rattle.mod_signing.specs.Stands.{KeepsSignings}
-use Rattle.mod_signing.proofs.CallLemmas.{begun_places, begun_put}
-use Rattle.mod_signing.proofs.StandLemmas.{keeps_begun, new_info_is}
+use Rattle.mod_signing.specs.{Calls.{begun_entry, ring_at}, Kept.with_signed, Stands.KeepsSignings}
+use Rattle.mod_signing.proofs.{CallLemmas.{begun_places, begun_put}, StandLemmas.{keeps_begun, new_info_is}}
 use Rattle.mod_signing.proofs.hooks.WindowStakingHooks.after_validator_bonded.Goals as goal
 
 pub put_info-requires : goal.put_info-requires

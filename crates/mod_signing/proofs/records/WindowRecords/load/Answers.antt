@@ -1,7 +1,6 @@
 use Rattle.std.proofs.Common.{◌≡◌, ◌∙◌, true, false, refl, sym, ap}
 use Rattle.base_records.proofs.KindLemmas.{added-at}
-use Rattle.mod_signing.specs.Items.{items_of, is_signing}
-use Rattle.mod_signing.proofs.ItemLemmas.{no_signing, signing_added}
+use Rattle.mod_signing.{specs.Items.{items_of, is_signing}, proofs.ItemLemmas.{no_signing, signing_added}}
 use Rattle.mod_signing.proofs.records.WindowRecords.load.Goals as goal
 
 pub returns-in_default : goal.returns-in_default

@@ -1,8 +1,6 @@
-use Rattle.std.proofs.Common.{◌≡◌, ◌∙◌, ◌+◌, ◌<◌, cond, length, take, sym, ap, arith}
-use Rattle.std.proofs.lemmas.List.{length-take, take_all}
+use Rattle.std.proofs.Common.{◌≡◌, ◌∙◌, ◌+◌, ◌<◌, cond, length, take, sym, ap, arith, length-take, take_all}
 use Rattle.rule_modules.specs.Amounts.{count_where}
-use Rattle.mod_signing.proofs.InfoLemmas.{few_set}
-use Rattle.mod_signing.proofs.LoopLemmas.{count_more, one_most}
+use Rattle.mod_signing.proofs.{InfoLemmas.few_set, LoopLemmas.{count_more, one_most}}
 use Rattle.mod_signing.proofs.ring.Ring.missed.Goals as goal
 
 pub at-requires : goal.at-requires

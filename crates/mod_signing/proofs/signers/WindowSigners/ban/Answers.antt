@@ -1,9 +1,6 @@
-use Rattle.std.proofs.Common.{◌∙◌, sym, ap, subst, arith}
-use Rattle.std.specs.Prelude.{IsSome}
-use Rattle.std.specs.Option.{option_copied}
+use Rattle.std.proofs.Common.{◌∙◌, sym, ap, subst, arith, IsSome, option_copied}
 use Rattle.base_types.specs.Orders.{cons_cmp}
-use Rattle.base_roles.specs.Entries.{at}
-use Rattle.base_roles.specs.Lent.{IsBanned}
+use Rattle.base_roles.specs.{Entries.at, Lent.IsBanned}
 use Rattle.mod_signing.specs.Stands.{IsSound, bans_kept, infos_of}
 use Rattle.mod_signing.proofs.CallLemmas.{ban-banned, ban_is, copied_some, entry_has, entry_there, places_are}
 use Rattle.mod_signing.proofs.StandLemmas.{sound_banned}

@@ -1,10 +1,7 @@
-use Rattle.std.proofs.Common.{◌∙◌, Some, None, refl, sym, ap}
-use Rattle.std.specs.Prelude.{option_map}
+use Rattle.std.proofs.Common.{◌∙◌, Some, None, refl, sym, ap, option_map}
 use Rattle.base_types.specs.Orders.{cons_cmp}
 use Rattle.base_roles.specs.Entries.{at}
-use Rattle.mod_signing.specs.Stands.{infos_of}
-use Rattle.mod_signing.proofs.CallLemmas.{entry_has, entry_none}
-use Rattle.mod_signing.proofs.InfoLemmas.{info_at}
+use Rattle.mod_signing.{specs.Stands.infos_of, proofs.{CallLemmas.{entry_has, entry_none}, InfoLemmas.info_at}}
 use Rattle.mod_signing.proofs.signers.WindowSigners.info.Goals as goal
 
 pub returns-in-Some-clause-value : goal.returns-in-Some-clause-value

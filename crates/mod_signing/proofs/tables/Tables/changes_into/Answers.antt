@@ -1,12 +1,8 @@
-use Rattle.std.proofs.Common.{◌≡◌, ◌++◌, Bool, List, subst}
-use Rattle.std.specs.Prelude.{OnOk}
+use Rattle.std.proofs.Common.{◌≡◌, ◌++◌, Bool, List, subst, OnOk}
 use Rattle.base_types.specs.Orders.{cons_cmp}
-use Rattle.base_roles.specs.declared.items.Item.{Item}
-use Rattle.base_roles.specs.Items.{AreChanges}
+use Rattle.base_roles.{specs.{declared.items.Item.Item, Items.AreChanges}, proofs.StakeLemmas.on_ok}
 use Rattle.base_records.specs.Items.{changes_of}
-use Rattle.mod_signing.specs.Kept.{kept_of}
-use Rattle.mod_signing.specs.Items.{items_of, same_signed, signing_gone, signing_item, touched_over}
-use Rattle.base_roles.proofs.StakeLemmas.{on_ok}
+use Rattle.mod_signing.specs.{Kept.kept_of, Items.{items_of, same_signed, signing_gone, signing_item, touched_over}}
 use Rattle.mod_signing.proofs.SettledLemmas.{records_changed}
 use Rattle.mod_signing.proofs.tables.Tables.changes_into.Goals as goal
 

@@ -1,7 +1,5 @@
 use Rattle.std.proofs.Common.{◌∙◌, ap}
-use Rattle.mod_signing.specs.Calls.{told_of_entry, told_of_signed}
-use Rattle.mod_signing.specs.Kept.{signed_of}
-use Rattle.mod_signing.proofs.TableLemmas.{entry_found}
+use Rattle.mod_signing.{specs.{Calls.{told_of_entry, told_of_signed}, Kept.signed_of}, proofs.TableLemmas.entry_found}
 use Rattle.mod_signing.proofs.tables.Tables.entry.Goals as goal
 
 pub returns-clause-found : goal.returns-clause-found

@@ -1,7 +1,5 @@
-use Rattle.std.proofs.Common.{◌≡◌, ◌++◌, subst}
-use Rattle.std.specs.Prelude.{OnOk}
-use Rattle.mod_signing.specs.Items.{items_of}
-use Rattle.mod_signing.proofs.ItemLemmas.{always, signings_once}
+use Rattle.std.proofs.Common.{◌≡◌, ◌++◌, subst, OnOk}
+use Rattle.mod_signing.{specs.Items.items_of, proofs.ItemLemmas.{always, signings_once}}
 use Rattle.mod_signing.proofs.tables.Tables.items_into.Goals as goal
 
 pub returns-clause-items : goal.returns-clause-items

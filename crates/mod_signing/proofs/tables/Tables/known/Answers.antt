@@ -1,8 +1,7 @@
 use Rattle.std.proofs.Common.{sym, subst}
 use Rattle.std.specs.List.Sorted.{IsStrictlySortedBy}
 use Rattle.base_types.specs.Orders.{cons_cmp}
-use Rattle.mod_signing.specs.Kept.{AreInOrder}
-use Rattle.mod_signing.proofs.SettledLemmas.{kept_keys}
+use Rattle.mod_signing.{specs.Kept.AreInOrder, proofs.SettledLemmas.kept_keys}
 use Rattle.mod_signing.proofs.tables.Tables.known.Goals as goal
 
 pub returns : goal.returns

@@ -1,10 +1,7 @@
-use Rattle.std.proofs.Common.{◌∙◌, ap}
-use Rattle.std.specs.Prelude.{option_map}
-use Rattle.std.specs.Option.{option_copied}
+use Rattle.std.proofs.Common.{◌∙◌, ap, option_map, option_copied}
 use Rattle.base_types.specs.Orders.{cons_cmp}
 use Rattle.base_table.specs.Tabled.{entry_above}
-use Rattle.mod_signing.specs.Calls.{entry_told, signed_told}
-use Rattle.mod_signing.proofs.ResizedLemmas.{fused, told_above}
+use Rattle.mod_signing.{specs.Calls.{entry_told, signed_told}, proofs.ResizedLemmas.{fused, told_above}}
 use Rattle.mod_signing.proofs.tables.Tables.next.Goals as goal
 
 pub returns-clause-above : goal.returns-clause-above

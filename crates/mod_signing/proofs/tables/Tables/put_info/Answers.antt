@@ -1,7 +1,5 @@
 use Rattle.std.proofs.Common.{◌∙◌, ◌≤◌, length, take, refl, sym, ap, inr, subst}
-use Rattle.mod_signing.specs.Calls.{ring_at}
-use Rattle.mod_signing.specs.Kept.{keeping, windowed, with_signed}
-use Rattle.mod_signing.proofs.PutLemmas.{info-put}
+use Rattle.mod_signing.{specs.{Calls.ring_at, Kept.{keeping, windowed, with_signed}}, proofs.PutLemmas.info-put}
 use Rattle.mod_signing.proofs.TouchedLemmas.{in_step-tried}
 use Rattle.mod_signing.proofs.tables.Tables.put_info.Goals as goal
 

@@ -1,7 +1,5 @@
 use Rattle.std.proofs.Common.{◌∙◌, true, ap, inr}
-use Rattle.mod_signing.specs.Kept.{behind, keeping, windowed, with_signed}
-use Rattle.mod_signing.specs.Rings.{ring_of}
-use Rattle.mod_signing.proofs.PutLemmas.{ring-put}
+use Rattle.mod_signing.{specs.{Kept.{behind, keeping, windowed, with_signed}, Rings.ring_of}, proofs.PutLemmas.ring-put}
 use Rattle.mod_signing.proofs.TouchedLemmas.{in_step-tried, behind-tried}
 use Rattle.mod_signing.proofs.tables.Tables.put_record.Goals as goal
 

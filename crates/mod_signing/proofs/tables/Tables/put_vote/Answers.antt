@@ -1,9 +1,7 @@
 use Rattle.std.proofs.Common.{◌≡◌, ◌∙◌, ◌/◌, ◌≤◌, length, true, sym, ap, inr, subst}
 use Rattle.base_table.specs.Tabled.{value_at}
-use Rattle.mod_signing.specs.Calls.{IsRow, ring_at}
-use Rattle.mod_signing.specs.Kept.{behind, keeping, windowed, with_signed}
-use Rattle.mod_signing.specs.Rings.{ring_with, row_cmp}
-use Rattle.mod_signing.proofs.PutLemmas.{vote-put}
+use Rattle.mod_signing.specs.{Calls.{IsRow, ring_at}, Kept.{behind, keeping, windowed, with_signed}}
+use Rattle.mod_signing.{specs.Rings.{ring_with, row_cmp}, proofs.PutLemmas.vote-put}
 use Rattle.mod_signing.proofs.TouchedLemmas.{in_step-tried, behind-tried, row-listed}
 use Rattle.mod_signing.proofs.tables.Tables.put_vote.Goals as goal
 

@@ -1,6 +1,5 @@
 use Rattle.std.proofs.Common.{Some, None, subst}
-use Rattle.mod_signing.specs.Calls.{IsRow, ring_at}
-use Rattle.mod_signing.proofs.TableLemmas.{row_given}
+use Rattle.mod_signing.{specs.Calls.{IsRow, ring_at}, proofs.TableLemmas.row_given}
 use Rattle.mod_signing.proofs.tables.Tables.row.Goals as goal
 
 pub returns-in-Some-clause-row : goal.returns-in-Some-clause-row

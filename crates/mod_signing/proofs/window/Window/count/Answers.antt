@@ -1,18 +1,10 @@
-use Rattle.std.proofs.Common.{rules, Err, ◌≡◌, ◌∙◌, ◌+◌, ◌/◌, ◌≤◌, [], ◌∷◌, length, take, Some, refl, sym, ap, subst, arith}
-use Rattle.std.specs.Prelude.{not, IsSome, is_some}
-use Rattle.base_roles.specs.Ground.{seen}
-use Rattle.base_roles.specs.Log.{Log}
-use Rattle.rule_modules.specs.Amounts.{seconds}
-use Rattle.base_roles.specs.declared.faults.HookFault.TheVariants.{NoMemory}
-use Rattle.rule_modules.specs.Window.{Signing, info_of, vote_counted}
-use Rattle.mod_signing.specs.Calls.{HasEntry, IsRow, VoteAnswers, ring_at}
-use Rattle.mod_signing.specs.Kept.{Signed, signed_of, with_signed}
-use Rattle.mod_signing.specs.Rings.{ring_with}
-use Rattle.mod_signing.specs.Stands.{KeepsSignings, KeepsVotes, IsKept}
+use Rattle.std.proofs.Common.{rules, Err, ◌≡◌, ◌∙◌, ◌+◌, ◌/◌, ◌≤◌, [], ◌∷◌, length, take, Some, refl, sym, ap, subst, arith, not, IsSome, is_some}
+use Rattle.base_roles.specs.{Ground.seen, Log.Log, declared.faults.HookFault.TheVariants.NoMemory}
+use Rattle.rule_modules.specs.{Amounts.seconds, Window.{Signing, info_of, vote_counted}}
+use Rattle.mod_signing.specs.{Calls.{HasEntry, IsRow, VoteAnswers, ring_at}, Kept.{Signed, signed_of, with_signed}}
+use Rattle.mod_signing.specs.{Rings.ring_with, Stands.{KeepsSignings, KeepsVotes, IsKept}}
 use Rattle.mod_signing.proofs.CallLemmas.{kept_counted, kept_reset, place_fits, places_next}
-use Rattle.mod_signing.proofs.DownLemmas.{down_height, down_status}
-use Rattle.mod_signing.proofs.SlashLemmas.{falls-none}
-use Rattle.mod_signing.proofs.StandLemmas.{plain_at}
+use Rattle.mod_signing.proofs.{DownLemmas.{down_height, down_status}, SlashLemmas.falls-none, StandLemmas.plain_at}
 use Rattle.mod_signing.proofs.VoteLemmas.{count-fails, count-leaves, count-wants, ground-same, not-both, punished_is, punished-leaves, punished-wants}
 use Rattle.mod_signing.proofs.window.Window.count.Goals as goal
 

@@ -1,6 +1,5 @@
 use Rattle.std.proofs.Common.{◌∙◌, Some, None, refl, sym, subst}
-use Rattle.mod_signing.specs.Stands.{KeepsSignings}
-use Rattle.mod_signing.proofs.CallLemmas.{entry_has, entry_none}
+use Rattle.mod_signing.{specs.Stands.KeepsSignings, proofs.CallLemmas.{entry_has, entry_none}}
 use Rattle.mod_signing.proofs.UnjailLemmas.{leaves_at, leaves_none}
 use Rattle.mod_signing.proofs.window.Window.may_leave.Goals as goal
 

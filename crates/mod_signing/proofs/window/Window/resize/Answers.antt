@@ -1,8 +1,6 @@
 use Rattle.std.proofs.Common.{◌∙◌, sym, ap, subst}
 use Rattle.rule_modules.specs.Window.{window_resized}
-use Rattle.mod_signing.specs.Resizing.{kept_resized}
-use Rattle.mod_signing.specs.Stands.{KeepsSignings}
-use Rattle.mod_signing.proofs.ResizeLemmas.{resizing_carries}
+use Rattle.mod_signing.{specs.{Resizing.kept_resized, Stands.KeepsSignings}, proofs.ResizeLemmas.resizing_carries}
 use Rattle.mod_signing.proofs.window.Window.resize.Goals as goal
 
 pub returns-clause-resized : goal.returns-clause-resized

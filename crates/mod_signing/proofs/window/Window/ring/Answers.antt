@@ -1,8 +1,5 @@
-use Rattle.std.proofs.Common.{◌∙◌, Some, None, refl, sym, ap}
-use Rattle.std.specs.Prelude.{option_map}
-use Rattle.mod_signing.specs.Calls.{ring_if}
-use Rattle.mod_signing.specs.Kept.{signed_of}
-use Rattle.mod_signing.proofs.CallLemmas.{entry_has, entry_none, places_are}
+use Rattle.std.proofs.Common.{◌∙◌, Some, None, refl, sym, ap, option_map}
+use Rattle.mod_signing.{specs.{Calls.ring_if, Kept.signed_of}, proofs.CallLemmas.{entry_has, entry_none, places_are}}
 use Rattle.mod_signing.proofs.window.Window.ring.Goals as goal
 
 pub of-requires : goal.of-requires

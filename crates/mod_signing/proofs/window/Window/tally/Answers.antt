@@ -1,6 +1,5 @@
 use Rattle.std.proofs.Common.{◌∙◌, ◌/◌, ◌%◌, refl, sym, ap, subst, arith}
-use Rattle.mod_signing.specs.Calls.{IsRow, one_more, ring_at}
-use Rattle.mod_signing.proofs.CallLemmas.{counted_is, misses_few, misses_if}
+use Rattle.mod_signing.{specs.Calls.{IsRow, one_more, ring_at}, proofs.CallLemmas.{counted_is, misses_few, misses_if}}
 use Rattle.mod_signing.proofs.window.Window.tally.Goals as goal
 
 pub counted-requires-clause-misses : goal.counted-requires-clause-misses

@@ -1,10 +1,7 @@
-use Rattle.std.proofs.Common.{rules, ◌≡◌, ◌∙◌, Ok, Err, refl, sym, ap, subst}
-use Rattle.std.specs.Prelude.{is_some}
+use Rattle.std.proofs.Common.{rules, ◌≡◌, ◌∙◌, Ok, Err, refl, sym, ap, subst, is_some}
 use Rattle.base_roles.specs.declared.faults.MessageFault.TheVariants as stop
-use Rattle.base_roles.specs.Ground.{seen}
-use Rattle.rule_modules.specs.Answers.{AnswersHeld}
-use Rattle.rule_modules.specs.Window.{unjailed}
-use Rattle.base_roles.specs.declared.refusal.Refusal.TheVariants.{NoValidator, NoSelfDelegation}
+use Rattle.base_roles.specs.{Ground.seen, declared.refusal.Refusal.TheVariants.{NoValidator, NoSelfDelegation}}
+use Rattle.rule_modules.specs.{Answers.AnswersHeld, Window.unjailed}
 use Rattle.mod_signing.specs.Calls.{OnRefusal}
 use Rattle.mod_signing.proofs.UnjailLemmas.{cleared, done, leaves, own-few, own-some, own-tokens, refused-first, refused-then, refuses, unjail-nobody, unjail-nothing, wants}
 use Rattle.mod_signing.proofs.window.Window.unjail.Goals as goal

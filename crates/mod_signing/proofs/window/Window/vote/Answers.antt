@@ -1,14 +1,9 @@
 use Rattle.std.proofs.Common.{◌≡◌, ◌∙◌, ◌<◌, Some, None, refl, sym, ap, subst}
-use Rattle.base_roles.specs.declared.entities.SigningInfo.{SigningInfo}
-use Rattle.base_roles.specs.Ground.{seen}
-use Rattle.base_roles.specs.Staked.{validator_by_cons}
+use Rattle.base_roles.specs.{declared.entities.SigningInfo.SigningInfo, Ground.seen, Staked.validator_by_cons}
 use Rattle.base_roles.specs.World.{World}
 use Rattle.rule_modules.specs.Window.{signing_of, vote_counted}
-use Rattle.mod_signing.specs.Calls.{HasEntry, VoteAnswers}
-use Rattle.mod_signing.specs.Kept.{signed_of}
-use Rattle.mod_signing.specs.Stands.{KeepsSignings}
-use Rattle.mod_signing.proofs.CallLemmas.{entry_has, entry_none}
-use Rattle.mod_signing.proofs.StandLemmas.{none_at, plain_at}
+use Rattle.mod_signing.specs.{Calls.{HasEntry, VoteAnswers}, Kept.signed_of, Stands.KeepsSignings}
+use Rattle.mod_signing.proofs.{CallLemmas.{entry_has, entry_none}, StandLemmas.{none_at, plain_at}}
 use Rattle.mod_signing.proofs.SlashLemmas.{falls-none}
 use Rattle.mod_signing.proofs.VoteLemmas.{ground-same, skipped-gone, skipped-jailed, skipped-new, skips}
 use Rattle.mod_signing.proofs.window.Window.vote.Goals as goal

@@ -1,8 +1,5 @@
-use Rattle.std.proofs.Common.{◌≡◌, ◌∙◌, sym, ap}
-use Rattle.std.specs.Prelude.{Some, is_some}
-use Rattle.std.specs.Option.{option_copied}
-use Rattle.base_roles.specs.Staked.{validator_by_cons}
-use Rattle.base_roles.proofs.StakeLemmas.{on_ok, on_both}
+use Rattle.std.proofs.Common.{◌≡◌, ◌∙◌, sym, ap, Some, is_some, option_copied}
+use Rattle.base_roles.{specs.Staked.validator_by_cons, proofs.StakeLemmas.{on_ok, on_both}}
 use Rattle.mod_slashing.proofs.StillLemmas.{stands-here, jail-held, jail-is, jail-lists, jail-same, jail-same_by_cons, jail-bonded, jail-other}
 use Rattle.mod_slashing.proofs.slashing.CoreSlasher.jail.Goals as goal
 

@@ -1,14 +1,11 @@
 use Rattle.std.proofs.Common.{◌≡◌, ◌∙◌, ◌+◌, ◌-◌, false, sym, ap, subst}
-use Rattle.base_roles.specs.Answers.{Follows}
-use Rattle.base_roles.specs.Ground.{seen}
+use Rattle.base_roles.specs.{Answers.Follows, Ground.seen}
 use Rattle.base_roles.specs.Staked.{Staked, validator_at, is_unbonded, lists_of, bonded_tokens, other_tokens}
-use Rattle.base_roles.specs.World.{World}
+use Rattle.base_roles.{specs.World.World, proofs.FallLemmas.{falls-burned, falls-beside, falls-then}}
+use Rattle.base_roles.proofs.StakeLemmas.{holds-fallen, holds-part, holds-burned, stands-burned, on_ok, on_both, still-then}
 use Rattle.rule_modules.specs.Slashing.{Core, EntriesSlash, slash_amount, rest_slashed, slashed_at}
 use Rattle.mod_staking.specs.Calls.{behind_log}
-use Rattle.base_roles.proofs.FallLemmas.{falls-burned, falls-beside, falls-then}
-use Rattle.base_roles.proofs.StakeLemmas.{holds-fallen, holds-part, holds-burned, stands-burned, on_ok, on_both, still-then}
-use Rattle.mod_slashing.proofs.StillLemmas.{still-by_cons}
-use Rattle.mod_slashing.proofs.ToldLemmas.{slashed-all}
+use Rattle.mod_slashing.proofs.{StillLemmas.still-by_cons, ToldLemmas.slashed-all}
 use Rattle.mod_slashing.proofs.slashing.CoreSlasher.slash.Goals as goal
 
 pub slash_redelegations-requires-clause-stand : goal.slash_redelegations-requires-clause-stand

@@ -1,6 +1,4 @@
-use Rattle.std.proofs.Common.{◌∙◌, ap}
-use Rattle.std.specs.Prelude.{option_map}
-use Rattle.std.specs.Option.{option_copied}
+use Rattle.std.proofs.Common.{◌∙◌, ap, option_map, option_copied}
 use Rattle.base_table.specs.Tabled.{entry_above}
 use Rattle.mod_staking.specs.Places.{time_cmp, maturing_place, in_order}
 use Rattle.mod_staking.proofs.listed.ListedValidators.next_maturing.Goals as goal

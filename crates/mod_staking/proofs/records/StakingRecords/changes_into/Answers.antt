@@ -1,6 +1,5 @@
 use Rattle.base_records.proofs.KindLemmas.{changed-at}
-use Rattle.mod_staking.specs.Items.{items_of}
-use Rattle.mod_staking.proofs.ItemLemmas.{kinds-apart}
+use Rattle.mod_staking.{specs.Items.items_of, proofs.ItemLemmas.kinds-apart}
 use Rattle.mod_staking.proofs.records.StakingRecords.changes_into.Goals as goal
 
 pub changes_into-requires : goal.changes_into-requires

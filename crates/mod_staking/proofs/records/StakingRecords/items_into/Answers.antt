@@ -1,6 +1,5 @@
 use Rattle.base_records.proofs.KindLemmas.{once-at, listed-at}
-use Rattle.mod_staking.specs.Items.{items_of}
-use Rattle.mod_staking.proofs.ItemLemmas.{kinds-apart}
+use Rattle.mod_staking.{specs.Items.items_of, proofs.ItemLemmas.kinds-apart}
 use Rattle.mod_staking.proofs.records.StakingRecords.items_into.Goals as goal
 
 pub items_into-requires : goal.items_into-requires

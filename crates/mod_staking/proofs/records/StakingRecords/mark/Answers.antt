@@ -1,6 +1,5 @@
 use Rattle.std.proofs.Common.{◌∙◌, ◌++◌, [], ◌∷◌, ap}
-use Rattle.mod_staking.specs.Registered.{registered}
-use Rattle.mod_staking.proofs.MarkLemmas.{in_step-marked, registered-marked}
+use Rattle.mod_staking.{specs.Registered.registered, proofs.MarkLemmas.{in_step-marked, registered-marked}}
 use Rattle.mod_staking.proofs.records.StakingRecords.mark.Goals as goal
 
 pub invariant_of-self-2 : goal.invariant_of-self-2

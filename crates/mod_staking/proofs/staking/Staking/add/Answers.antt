@@ -1,9 +1,7 @@
 use Rattle.std.proofs.Common.{◌≡◌, ap, sym, subst}
 use Rattle.base_types.specs.Orders.{addr_cmp}
 use Rattle.base_roles.specs.Entries.{with}
-use Rattle.mod_staking.specs.Registered.{AreKeyed}
-use Rattle.mod_staking.proofs.IndexLemmas.{keyed-put}
-use Rattle.mod_staking.proofs.MarkLemmas.{in_step-with}
+use Rattle.mod_staking.{specs.Registered.AreKeyed, proofs.{IndexLemmas.keyed-put, MarkLemmas.in_step-with}}
 use Rattle.mod_staking.proofs.staking.Staking.add.Goals as goal
 
 pub invariant_of-self : goal.invariant_of-self

@@ -1,17 +1,10 @@
-use Rattle.std.proofs.Common.{◌≡◌, ◌∙◌, refl, ap, sym, subst}
-use Rattle.std.specs.Prelude.{Result, Ok, Err, OnOk, ⊤}
-use Rattle.base_roles.specs.declared.faults.HookFault.{HookFault}
-use Rattle.base_roles.specs.Answers.{Answers}
-use Rattle.base_roles.specs.Ground.{seen}
-use Rattle.base_roles.specs.Hooks.{Stand}
-use Rattle.base_roles.specs.Staked.{lists_of, bonded_tokens, other_tokens}
-use Rattle.base_roles.specs.StakeChanges.{HoldsStake}
-use Rattle.base_roles.specs.World.{created}
+use Rattle.std.proofs.Common.{◌≡◌, ◌∙◌, refl, ap, sym, subst, Result, Ok, Err, OnOk}
+use Rattle.std.specs.Prelude.{⊤}
+use Rattle.base_roles.specs.{declared.faults.HookFault.HookFault, Answers.Answers, Ground.seen, Hooks.Stand}
+use Rattle.base_roles.specs.{Staked.{lists_of, bonded_tokens, other_tokens}, StakeChanges.HoldsStake, World.created}
 use Rattle.base_roles.proofs.HookLemmas.{Stand-after_ok, picked}
 use Rattle.rule_modules.proofs.SoundLemmas.{IsSoundAt, to_points, from_points}
-use Rattle.mod_staking.proofs.ListLemmas.{lists-joined}
-use Rattle.mod_staking.proofs.GroundLemmas.{holds-kept}
-use Rattle.mod_staking.proofs.DelegateLemmas.{keeps-ok}
+use Rattle.mod_staking.proofs.{ListLemmas.lists-joined, GroundLemmas.holds-kept, DelegateLemmas.keeps-ok}
 use Rattle.mod_staking.proofs.CreateLemmas.{sound-created, ready-created, joined_tokens}
 use Rattle.mod_staking.proofs.staking.Staking.admit.Goals as goal
 

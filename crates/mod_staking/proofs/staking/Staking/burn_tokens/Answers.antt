@@ -1,5 +1,4 @@
-use Rattle.std.proofs.Common.{◌≡◌, ◌∙◌, Some, ap, sym, refl, arith}
-use Rattle.std.specs.Option.{option_copied}
+use Rattle.std.proofs.Common.{◌≡◌, ◌∙◌, Some, ap, sym, refl, arith, option_copied}
 use Rattle.base_roles.specs.Staked.{validator_at}
 use Rattle.mod_staking.proofs.SoundLemmas.{sound-set, less_empty}
 use Rattle.mod_staking.proofs.staking.Staking.burn_tokens.Goals as goal

@@ -1,5 +1,4 @@
-use Rattle.std.proofs.Common.{◌≡◌, ◌∙◌, Some, ap, sym, refl}
-use Rattle.std.specs.Option.{option_copied}
+use Rattle.std.proofs.Common.{◌≡◌, ◌∙◌, Some, ap, sym, refl, option_copied}
 use Rattle.base_roles.specs.Staked.{validator_at}
 use Rattle.mod_staking.proofs.SoundLemmas.{sound-set}
 use Rattle.mod_staking.proofs.staking.Staking.clear_jail.Goals as goal

@@ -1,18 +1,11 @@
-use Rattle.std.proofs.Common.{◌≡◌, ◌∙◌, ap, sym, subst}
-use Rattle.base_roles.specs.Ground.{seen}
-use Rattle.base_roles.specs.Hooks.{Stand}
+use Rattle.std.proofs.Common.{◌≡◌, ◌∙◌, ap, sym, subst, Ok, Err}
+use Rattle.base_roles.specs.{Ground.seen, Hooks.Stand}
 use Rattle.base_roles.specs.Staked.{validator_at, put_validator, lists_of, bonded_tokens, other_tokens}
-use Rattle.base_roles.specs.StakeChanges.{HoldsStake}
-use Rattle.base_roles.specs.World.{created}
-use Rattle.std.specs.Prelude.{Ok, Err}
-use Rattle.base_roles.specs.Answers.{AnswersAs}
+use Rattle.base_roles.specs.{StakeChanges.HoldsStake, World.created, Answers.AnswersAs}
 use Rattle.base_roles.proofs.HookLemmas.{Stand-after_ok, told-of_ok, picked}
 use Rattle.rule_modules.specs.Delegating.{wallet, delegated}
-use Rattle.mod_staking.specs.Calls.{behind_log}
-use Rattle.rule_modules.proofs.SoundLemmas.{IsSoundAt, to_points, from_points}
-use Rattle.rule_modules.proofs.SoundLemmas.{found_itself}
-use Rattle.mod_staking.proofs.ListLemmas.{lists-joined}
-use Rattle.mod_staking.proofs.GroundLemmas.{holds-kept}
+use Rattle.rule_modules.proofs.SoundLemmas.{IsSoundAt, to_points, from_points, found_itself}
+use Rattle.mod_staking.{specs.Calls.behind_log, proofs.{ListLemmas.lists-joined, GroundLemmas.holds-kept}}
 use Rattle.mod_staking.proofs.DelegateLemmas.{keeps-ok}
 use Rattle.mod_staking.proofs.CreateLemmas.{created_then, answers_ok, answers_err, rates, sound-created, ready-created, joined_tokens}
 use Rattle.mod_staking.proofs.staking.Staking.create_validator.Goals as goal

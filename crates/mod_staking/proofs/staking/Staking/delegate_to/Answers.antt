@@ -1,16 +1,11 @@
-use Rattle.std.proofs.Common.{◌≡◌, ◌∙◌, ap, sym, subst, arith, rules}
+use Rattle.std.proofs.Common.{◌≡◌, ◌∙◌, ap, sym, subst, arith, rules, Ok, ◌+◌}
 use Rattle.std.proofs.lemmas.Grind.{common_steps}
-use Rattle.std.specs.Prelude.{Ok, ◌+◌}
-use Rattle.base_roles.specs.Ground.{seen}
-use Rattle.base_roles.specs.Hooks.{Stand, after}
-use Rattle.base_roles.specs.Staked.{lists_of, put_validator, bonded_tokens, other_tokens}
-use Rattle.base_roles.specs.StakeChanges.{HoldsStake}
-use Rattle.base_roles.specs.World.{modified}
-use Rattle.base_roles.proofs.HookLemmas.{Stand-after_ok, picked}
-use Rattle.rule_modules.specs.Delegating.{hook_before}
-use Rattle.rule_modules.specs.Stakes.{put_delegation}
-use Rattle.mod_staking.specs.Calls.{origin_of}
+use Rattle.base_roles.specs.{Ground.seen, Hooks.{Stand, after}}
+use Rattle.base_roles.specs.{Staked.{lists_of, put_validator, bonded_tokens, other_tokens}, StakeChanges.HoldsStake}
+use Rattle.base_roles.{specs.World.modified, proofs.HookLemmas.{Stand-after_ok, picked}}
+use Rattle.rule_modules.specs.{Delegating.hook_before, Stakes.put_delegation}
 use Rattle.rule_modules.proofs.SoundLemmas.{IsSoundAt, to_points, from_points}
+use Rattle.mod_staking.specs.Calls.{origin_of}
 use Rattle.mod_staking.proofs.DelegateLemmas.{ready-before, stand-before, origin-before, can_pay, reached, shares-given, held-most, ready-delegated, sound-delegated, lists-delegated_is, holds-delegated, keeps-ok, grown, ok_is}
 use Rattle.mod_staking.proofs.GroundLemmas.{holds-kept}
 use Rattle.mod_staking.proofs.staking.Staking.delegate_to.Goals as goal

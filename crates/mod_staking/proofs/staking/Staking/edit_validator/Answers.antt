@@ -1,7 +1,6 @@
 use Rattle.std.proofs.Common.{◌≡◌, ◌∙◌, Some, ap, sym, subst, ◌≤◌, ◌^◌}
 use Rattle.base_roles.specs.Staked.{validator_at}
-use Rattle.mod_staking.proofs.EditLemmas.{edited-rate, edited-least, edited-both}
-use Rattle.mod_staking.proofs.SoundLemmas.{sound-set}
+use Rattle.mod_staking.proofs.{EditLemmas.{edited-rate, edited-least, edited-both}, SoundLemmas.sound-set}
 use Rattle.mod_staking.proofs.staking.Staking.edit_validator.Goals as goal
 
 pub returns-clause-sound : goal.returns-clause-sound

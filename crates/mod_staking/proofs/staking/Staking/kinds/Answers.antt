@@ -1,7 +1,6 @@
 use Rattle.std.proofs.Common.{subst, sym}
 use Rattle.base_records.specs.Items.{AreFit}
-use Rattle.mod_staking.specs.Items.{FitsOperator}
-use Rattle.mod_staking.proofs.ItemLemmas.{keyed_fit}
+use Rattle.mod_staking.{specs.Items.FitsOperator, proofs.ItemLemmas.keyed_fit}
 use Rattle.mod_staking.proofs.staking.Staking.kinds.Goals as goal
 
 pub returns-clause-keyed : goal.returns-clause-keyed

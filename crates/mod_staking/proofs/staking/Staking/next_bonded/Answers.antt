@@ -1,6 +1,4 @@
-use Rattle.std.proofs.Common.{◌∙◌, ap}
-use Rattle.std.specs.Prelude.{option_map}
-use Rattle.std.specs.Option.{option_copied}
+use Rattle.std.proofs.Common.{◌∙◌, ap, option_map, option_copied}
 use Rattle.base_types.specs.Orders.{addr_cmp}
 use Rattle.base_table.specs.Tabled.{entry_above}
 use Rattle.mod_staking.specs.Places.{bonded_place, in_order}

@@ -1,5 +1,4 @@
-use Rattle.std.proofs.Common.{◌∙◌, ap}
-use Rattle.std.specs.Prelude.{option_map}
+use Rattle.std.proofs.Common.{◌∙◌, ap, option_map}
 use Rattle.base_table.specs.Tabled.{entry_above}
 use Rattle.mod_staking.specs.Places.{standing, standing_cmp, power_place, in_order}
 use Rattle.mod_staking.proofs.staking.Staking.next_by_power.Goals as goal

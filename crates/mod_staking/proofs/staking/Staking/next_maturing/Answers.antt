@@ -1,5 +1,4 @@
-use Rattle.std.proofs.Common.{◌∙◌, ap}
-use Rattle.std.specs.Prelude.{option_map}
+use Rattle.std.proofs.Common.{◌∙◌, ap, option_map}
 use Rattle.base_table.specs.Tabled.{entry_above}
 use Rattle.mod_staking.specs.Places.{time_cmp, maturing_place, in_order}
 use Rattle.mod_staking.proofs.staking.Staking.next_maturing.Goals as goal

@@ -1,9 +1,7 @@
 use Rattle.std.proofs.Common.{◌≡◌, ◌∙◌, Some, ap, sym, subst, refl}
 use Rattle.base_types.specs.Orders.{addr_cmp}
-use Rattle.base_roles.specs.Entries.{at, with}
-use Rattle.base_roles.specs.Staked.{validator_at}
-use Rattle.mod_staking.specs.Registered.{AreKeyed, operator_by_cons}
-use Rattle.mod_staking.proofs.IndexLemmas.{keyed-put, index-put}
+use Rattle.base_roles.specs.{Entries.{at, with}, Staked.validator_at}
+use Rattle.mod_staking.{specs.Registered.{AreKeyed, operator_by_cons}, proofs.IndexLemmas.{keyed-put, index-put}}
 use Rattle.mod_staking.proofs.MarkLemmas.{in_step-with}
 use Rattle.mod_staking.proofs.staking.Staking.put.Goals as goal
 

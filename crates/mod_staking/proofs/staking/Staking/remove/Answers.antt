@@ -1,15 +1,9 @@
 use Rattle.std.proofs.Common.{◌∙◌, ap, sym, subst}
-use Rattle.base_roles.specs.Ground.{seen}
-use Rattle.base_roles.specs.Hooks.{Stand}
-use Rattle.base_roles.specs.Staked.{lists_of}
-use Rattle.base_roles.specs.World.{removed}
+use Rattle.base_roles.specs.{Ground.seen, Hooks.Stand, Staked.lists_of, World.removed}
 use Rattle.base_roles.proofs.HookLemmas.{stand-noted, Stand-after_ok, picked}
 use Rattle.rule_modules.proofs.SoundLemmas.{IsSoundAt, to_points, from_points}
-use Rattle.mod_staking.proofs.IndexLemmas.{alone_without}
-use Rattle.mod_staking.proofs.SoundLemmas.{sound-taken}
-use Rattle.mod_staking.proofs.ListLemmas.{lists-left}
-use Rattle.mod_staking.proofs.GroundLemmas.{keeps-noted}
-use Rattle.mod_staking.proofs.DelegateLemmas.{keeps-ok}
+use Rattle.mod_staking.proofs.{IndexLemmas.alone_without, SoundLemmas.sound-taken, ListLemmas.lists-left}
+use Rattle.mod_staking.proofs.{GroundLemmas.keeps-noted, DelegateLemmas.keeps-ok}
 use Rattle.mod_staking.proofs.RemoveLemmas.{ready-removed, sure_fault}
 use Rattle.mod_staking.proofs.staking.Staking.remove.Goals as goal
 

@@ -1,15 +1,11 @@
 use Rattle.std.proofs.Common.{◌≡◌, ◌∙◌, ◌-◌, ◌==◌, ◌<◌, ◌≤◌, true, false, None, Some, ap, sym, subst, refl, arith}
 use Rattle.base_shares.specs.Shares.{amount_out}
-use Rattle.base_roles.specs.Ground.{seen}
-use Rattle.base_roles.specs.Hooks.{Stand, Ready, with_started}
-use Rattle.base_roles.specs.Staked.{lists_of, validator_at, put_validator}
-use Rattle.base_roles.specs.World.{modifying, modified}
+use Rattle.base_roles.specs.{Ground.seen, Hooks.{Stand, Ready, with_started}}
+use Rattle.base_roles.specs.{Staked.{lists_of, validator_at, put_validator}, World.{modifying, modified}}
 use Rattle.base_roles.proofs.HookLemmas.{told-of_ok, picked}
 use Rattle.rule_modules.specs.Unbonding.{falls_below_minimum, left_standing}
-use Rattle.mod_staking.specs.Calls.{behind_log, jailed_if, jail_noted}
-use Rattle.rule_modules.proofs.SoundLemmas.{IsSoundAt, to_points, from_points}
-use Rattle.rule_modules.proofs.SoundLemmas.{found_itself}
-use Rattle.mod_staking.proofs.GroundLemmas.{keeps_then}
+use Rattle.rule_modules.proofs.SoundLemmas.{IsSoundAt, to_points, from_points, found_itself}
+use Rattle.mod_staking.{specs.Calls.{behind_log, jailed_if, jail_noted}, proofs.GroundLemmas.keeps_then}
 use Rattle.mod_staking.proofs.DelegateLemmas.{ready-before}
 use Rattle.mod_staking.proofs.UnbondLemmas.{Going, now_of, less_of, told-left_err, leaves_picked, left_is, then_log, told-removed_err, told-removed_ok}
 use Rattle.mod_staking.proofs.LeftLemmas.{some_held, held_few, stand_modifying, keeps_modifying, owes_modifying, ready_left, is_left, state_left, stands_left, sound_less, lists_less}

@@ -1,15 +1,8 @@
-use Rattle.std.proofs.Common.{◌≡◌, ◌∙◌, Some, ap, sym, subst, rules}
-use Rattle.std.specs.Prelude.{IfOk, IsSome, is_some}
-use Rattle.std.specs.Option.{option_copied}
+use Rattle.std.proofs.Common.{◌≡◌, ◌∙◌, Some, ap, sym, subst, rules, IfOk, IsSome, is_some, option_copied}
 use Rattle.base_table.proofs.WalkLemmas.{is_some-map}
-use Rattle.base_roles.specs.Answers.{Follows}
-use Rattle.base_roles.specs.Ground.{seen}
-use Rattle.base_roles.specs.Staked.{validator_at}
-use Rattle.base_roles.specs.StakeChanges.{IsUnbonded}
-use Rattle.rule_modules.specs.Unbonding.{shares_unbonded}
-use Rattle.rule_modules.proofs.SoundLemmas.{to_points}
-use Rattle.mod_staking.specs.Calls.{over}
-use Rattle.mod_staking.proofs.LogLemmas.{unbonded-behind}
+use Rattle.base_roles.specs.{Answers.Follows, Ground.seen, Staked.validator_at, StakeChanges.IsUnbonded}
+use Rattle.rule_modules.{specs.Unbonding.shares_unbonded, proofs.SoundLemmas.to_points}
+use Rattle.mod_staking.{specs.Calls.over, proofs.LogLemmas.unbonded-behind}
 use Rattle.mod_staking.proofs.unbonding.StakingUnbonder.unbond.Goals as goal
 
 pub unwrap-requires : goal.unwrap-requires

@@ -1,6 +1,5 @@
 use Rattle.std.proofs.Common.{◌∙◌, sym, subst}
-use Rattle.mod_statement.specs.Entries.{AreBehind}
-use Rattle.mod_statement.proofs.Stretches.{stretch_behind}
+use Rattle.mod_statement.{specs.Entries.AreBehind, proofs.Stretches.stretch_behind}
 use Rattle.mod_statement.proofs.Walks.{factor_slash, factor_other}
 use Rattle.mod_statement.proofs.slack.Factor.behind.Goals as goal
 

@@ -1,8 +1,6 @@
 use Rattle.std.proofs.Common.{◌≡◌, ◌+◌, true, sym, subst, arith}
-use Rattle.std.proofs.lemmas.List.Elements.{All-drop}
-use Rattle.std.proofs.lemmas.Result.{err_from_is_err_and}
-use Rattle.mod_statement.specs.Entries.{AreBehind, is_behind}
-use Rattle.mod_statement.proofs.Stretches.{stretch_behind}
+use Rattle.std.proofs.lemmas.{List.Elements.All-drop, Result.err_from_is_err_and}
+use Rattle.mod_statement.{specs.Entries.{AreBehind, is_behind}, proofs.Stretches.stretch_behind}
 use Rattle.mod_statement.proofs.Walks.{stretches_begin, stretch_step, stretch_stop, stretch_end}
 use Rattle.mod_statement.proofs.slack.Factor.of_stretches.Goals as goal
 

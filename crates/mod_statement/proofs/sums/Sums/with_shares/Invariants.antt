@@ -1,6 +1,5 @@
 use Rattle.std.proofs.Common.{◌≡◌, drop, map}
-use Rattle.mod_statement.specs.Sums.{coins_shared}
-use Rattle.mod_statement.proofs.Walks.{seen}
+use Rattle.mod_statement.{specs.Sums.coins_shared, proofs.Walks.seen}
 use Rattle.mod_statement.proofs.sums.Sums.with_shares.Given as goal
 
 abbrev pub invariant-loop-coin : goal.invariant-loop-coin

@@ -2,9 +2,7 @@ use Rattle.std.proofs.Common.{◌≡◌, ◌∙◌, ℕ, ◌+◌, List, ◌∷�
 use Rattle.std.specs.Option.{option_or}
 use Rattle.base_types.specs.Orders.{addr_cmp}
 use Rattle.base_roles.specs.Entries.{at}
-use Rattle.mod_tally.specs.Ballots.{chosen_in}
-use Rattle.mod_tally.proofs.Casting.{cast_next, or_none}
-use Rattle.mod_tally.proofs.Told.{next_is}
+use Rattle.mod_tally.{specs.Ballots.chosen_in, proofs.{Casting.{cast_next, or_none}, Told.next_is}}
 use Rattle.mod_tally.proofs.ballots.Ballots.of.Goals as goal
 
 pub loop-voter-init : goal.loop-voter-init

@@ -1,14 +1,9 @@
 use Rattle.std.proofs.Common.{◌≡◌, ◌∙◌, refl, ap, subst}
-use Rattle.std.specs.List.Sorted.{IsStrictlySortedBy}
-use Rattle.std.specs.Map.{keys_of}
-use Rattle.base_roles.specs.declared.entities.UnbondingEntry.{UnbondingEntry}
-use Rattle.base_roles.specs.Entries.{with}
-use Rattle.base_roles.specs.Orders.{pair_cmp}
+use Rattle.std.specs.{List.Sorted.IsStrictlySortedBy, Map.keys_of}
+use Rattle.base_roles.specs.{declared.entities.UnbondingEntry.UnbondingEntry, Entries.with, Orders.pair_cmp}
 use Rattle.base_records.proofs.KindLemmas.{added-at}
 use Rattle.mod_entries.specs.Kept.{Kept}
-use Rattle.mod_unbonding.specs.Items.{items_of}
-use Rattle.mod_unbonding.specs.Walked.{Key}
-use Rattle.mod_unbonding.proofs.ItemLemmas.{unbonding-added}
+use Rattle.mod_unbonding.{specs.{Items.items_of, Walked.Key}, proofs.ItemLemmas.unbonding-added}
 use Rattle.mod_unbonding.proofs.records.UnbondingsRecords.load.Goals as goal
 
 pub returns-clause-added : goal.returns-clause-added

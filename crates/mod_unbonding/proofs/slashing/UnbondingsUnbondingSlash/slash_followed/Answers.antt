@@ -1,11 +1,8 @@
 use Rattle.std.proofs.Common.{◌∙◌, ◌+◌, ◌≤◌, sym, ap, subst}
-use Rattle.base_roles.specs.Ground.{seen}
-use Rattle.base_roles.specs.Lent.{IsBurned}
-use Rattle.rule_modules.specs.EntrySlashes.{entries_followed}
-use Rattle.rule_modules.specs.Owed.{entry_balances}
+use Rattle.base_roles.specs.{Ground.seen, Lent.IsBurned}
+use Rattle.rule_modules.specs.{EntrySlashes.entries_followed, Owed.entry_balances}
 use Rattle.rule_modules.specs.Unbondings.{entries_of, with_entries}
-use Rattle.mod_unbonding.specs.Calls.{AreSoundLists}
-use Rattle.mod_unbonding.proofs.CompletedLemmas.{still_in_order}
+use Rattle.mod_unbonding.{specs.Calls.AreSoundLists, proofs.CompletedLemmas.still_in_order}
 use Rattle.mod_unbonding.proofs.FollowedLemmas.{followed-most, followed-sound, followed-owed, can_burn, burned-followed}
 use Rattle.mod_unbonding.proofs.slashing.UnbondingsUnbondingSlash.slash_followed.Goals as goal
 

@@ -1,19 +1,10 @@
 use Rattle.std.proofs.Common.{◌∙◌, ◌+◌, drop, refl, sym, ap, subst}
-use Rattle.base_roles.specs.Ground.{seen}
-use Rattle.base_roles.specs.Holdings.{IsBacked}
-use Rattle.base_roles.specs.Orders.{pair_cmp}
-use Rattle.base_roles.specs.World.{View}
+use Rattle.base_roles.specs.{Ground.seen, Holdings.IsBacked, Orders.pair_cmp, World.View}
 use Rattle.base_roles.specs.declared.entities.UnbondingEntry.{UnbondingEntry}
 use Rattle.rule_modules.specs.EntrySlashes.{counted, unbonding_made}
-use Rattle.mod_entries.specs.Kept.{Kept}
-use Rattle.mod_entries.specs.Lists.{AreFew}
-use Rattle.mod_entries.specs.Slashed.{all_counted, is_from}
-use Rattle.mod_entries.specs.Walked.{keys_where}
-use Rattle.mod_entries.proofs.CountLemmas.{next_of}
-use Rattle.mod_entries.proofs.UndoneLemmas.{undone-none, undone-then}
-use Rattle.mod_unbonding.specs.Walked.{Key, slashed_in}
-use Rattle.mod_unbonding.proofs.EntriesLemmas.{are_few}
-use Rattle.mod_unbonding.proofs.WalkedLemmas.{stepped-next}
+use Rattle.mod_entries.specs.{Kept.Kept, Lists.AreFew, Slashed.{all_counted, is_from}, Walked.keys_where}
+use Rattle.mod_entries.proofs.{CountLemmas.next_of, UndoneLemmas.{undone-none, undone-then}}
+use Rattle.mod_unbonding.{specs.Walked.{Key, slashed_in}, proofs.{EntriesLemmas.are_few, WalkedLemmas.stepped-next}}
 use Rattle.mod_unbonding.proofs.SlashedLemmas.{IsSlashing, slashing-none, slashing-one, can_burn, slashed-all, u3}
 use Rattle.mod_unbonding.proofs.slashing.UnbondingsUnbondingSlash.slash_unbondings.Goals as goal
 

@@ -1,10 +1,7 @@
 use Rattle.std.proofs.Common.{◌≡◌, drop}
-use Rattle.base_roles.specs.Ground.{seen, CanBeUndone}
-use Rattle.base_roles.specs.Orders.{pair_cmp}
-use Rattle.mod_entries.specs.Kept.{behind}
-use Rattle.mod_entries.specs.Walked.{stepped}
-use Rattle.mod_unbonding.specs.Walked.{slashed_in}
-use Rattle.mod_unbonding.proofs.SlashedLemmas.{IsSlashing}
+use Rattle.base_roles.specs.{Ground.{seen, CanBeUndone}, Orders.pair_cmp}
+use Rattle.mod_entries.specs.{Kept.behind, Walked.stepped}
+use Rattle.mod_unbonding.{specs.Walked.slashed_in, proofs.SlashedLemmas.IsSlashing}
 use Rattle.mod_unbonding.proofs.slashing.UnbondingsUnbondingSlash.slash_unbondings.Given as goal
 
 abbrev pub invariant-loop-key : goal.invariant-loop-key

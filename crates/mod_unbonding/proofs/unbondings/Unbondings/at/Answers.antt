@@ -1,7 +1,5 @@
 use Rattle.std.proofs.Common.{◌∙◌, ap}
-use Rattle.base_roles.specs.declared.entities.UnbondingEntry.{UnbondingEntry}
-use Rattle.base_roles.specs.Entries.{at}
-use Rattle.base_roles.specs.Orders.{pair_cmp}
+use Rattle.base_roles.specs.{declared.entities.UnbondingEntry.UnbondingEntry, Entries.at, Orders.pair_cmp}
 use Rattle.mod_entries.specs.Kept.{Kept}
 use Rattle.mod_unbonding.specs.Walked.{Key}
 use Rattle.mod_unbonding.proofs.unbondings.Unbondings.at.Goals as goal

@@ -1,14 +1,10 @@
-use Rattle.std.proofs.Common.{◌≡◌, ◌∙◌, sym, ap, subst, rules}
-use Rattle.std.specs.Prelude.{Ok, Err, is_some}
-use Rattle.base_roles.specs.Ground.{seen}
-use Rattle.base_roles.specs.Flow.{◌>>=◌}
+use Rattle.std.proofs.Common.{◌≡◌, ◌∙◌, sym, ap, subst, rules, Ok, Err, is_some}
+use Rattle.base_roles.specs.{Ground.seen, Flow.{◌>>=◌}}
 use Rattle.base_roles.specs.declared.faults.MessageFault.TheVariants as stop
 use Rattle.base_types.specs.declared.status.BondStatus.TheVariants.{Unbonded}
-use Rattle.rule_modules.specs.Delegating.{pool}
-use Rattle.rule_modules.specs.Unbondings.{cancelled}
-use Rattle.mod_entries.proofs.AnswerLemmas.{answers_refused}
+use Rattle.rule_modules.specs.{Delegating.pool, Unbondings.cancelled}
+use Rattle.mod_entries.{proofs.AnswerLemmas.answers_refused, specs.Answers.AnswersBoth}
 use Rattle.mod_staking.specs.Calls.{behind_log}
-use Rattle.mod_entries.specs.Answers.{AnswersBoth}
 use Rattle.mod_unbonding.specs.Calls.{AreSoundLists, AreWhole, HoldsEntries}
 use Rattle.mod_unbonding.proofs.CancelLemmas.{delegated-behind, open-given, cancelled-asked, cancelled_from, answers_lowered, answers_stopped, lowered-sound, lowered-whole, lowered-accounts, has_origin, has_stake}
 use Rattle.mod_unbonding.proofs.unbondings.Unbondings.cancel.Goals as goal

@@ -1,16 +1,9 @@
 use Rattle.std.proofs.Common.{◌≡◌, ◌∙◌, ◌+◌, ◌*◌, ◌≤◌, drop, length, refl, sym, ap, subst, arith}
-use Rattle.base_roles.specs.Ground.{seen}
-use Rattle.rule_modules.specs.Amounts.{count_where}
-use Rattle.rule_modules.specs.Unbondings.{entries_of, is_mature}
-use Rattle.base_roles.specs.declared.entities.UnbondingEntry.{UnbondingEntry}
-use Rattle.rule_modules.specs.EntrySlashes.{unbonding_made}
-use Rattle.mod_entries.specs.Kept.{Kept}
-use Rattle.mod_entries.specs.Walked.{keys_where, is_due, mature_entries}
-use Rattle.mod_entries.proofs.CountLemmas.{next_of}
-use Rattle.mod_entries.proofs.DueLemmas.{due_few}
-use Rattle.mod_entries.proofs.UndoneLemmas.{undone-none, undone-then}
-use Rattle.mod_unbonding.specs.Walked.{Key, paid_at}
-use Rattle.mod_unbonding.proofs.WalkedLemmas.{length_next, stepped-next}
+use Rattle.base_roles.specs.{Ground.seen, declared.entities.UnbondingEntry.UnbondingEntry}
+use Rattle.rule_modules.specs.{Amounts.count_where, Unbondings.{entries_of, is_mature}, EntrySlashes.unbonding_made}
+use Rattle.mod_entries.{specs.{Kept.Kept, Walked.{keys_where, is_due, mature_entries}}, proofs.CountLemmas.next_of}
+use Rattle.mod_entries.proofs.{DueLemmas.due_few, UndoneLemmas.{undone-none, undone-then}}
+use Rattle.mod_unbonding.{specs.Walked.{Key, paid_at}, proofs.WalkedLemmas.{length_next, stepped-next}}
 use Rattle.mod_unbonding.proofs.CompletedLemmas.{IsCompleting, completing-none, completing-one, can_pay, mature-one, u3, due-seen, completed-all, cost-first, cost-next, cost-all, cost-stopped}
 use Rattle.mod_unbonding.proofs.unbondings.Unbondings.complete.Goals as goal
 

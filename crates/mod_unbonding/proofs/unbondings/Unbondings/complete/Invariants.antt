@@ -1,11 +1,8 @@
 use Rattle.std.proofs.Common.{◌≡◌, ◌+◌, ◌*◌, ◌≤◌, drop, length}
-use Rattle.base_roles.specs.Ground.{seen, CanBeUndone}
-use Rattle.base_roles.specs.Orders.{pair_cmp}
+use Rattle.base_roles.specs.{Ground.{seen, CanBeUndone}, Orders.pair_cmp}
 use Rattle.rule_modules.specs.EntrySlashes.{unbonding_made}
-use Rattle.mod_entries.specs.Kept.{behind}
-use Rattle.mod_entries.specs.Walked.{stepped, mature_entries}
-use Rattle.mod_unbonding.specs.Walked.{paid_at}
-use Rattle.mod_unbonding.proofs.CompletedLemmas.{IsCompleting}
+use Rattle.mod_entries.specs.{Kept.behind, Walked.{stepped, mature_entries}}
+use Rattle.mod_unbonding.{specs.Walked.paid_at, proofs.CompletedLemmas.IsCompleting}
 use Rattle.mod_unbonding.proofs.unbondings.Unbondings.complete.Given as goal
 
 abbrev pub invariant-loop-key : goal.invariant-loop-key

@@ -1,8 +1,6 @@
 use Rattle.std.proofs.Common.{◌∙◌, ap, length}
-use Rattle.base_roles.specs.declared.entities.UnbondingEntry.{UnbondingEntry}
-use Rattle.base_roles.specs.Orders.{pair_cmp}
-use Rattle.mod_entries.specs.Kept.{Kept}
-use Rattle.mod_entries.specs.Lists.{list_at}
+use Rattle.base_roles.specs.{declared.entities.UnbondingEntry.UnbondingEntry, Orders.pair_cmp}
+use Rattle.mod_entries.specs.{Kept.Kept, Lists.list_at}
 use Rattle.mod_unbonding.specs.Walked.{Key}
 use Rattle.mod_unbonding.proofs.unbondings.Unbondings.count.Goals as goal
 

@@ -1,10 +1,7 @@
-use Rattle.std.proofs.Common.{◌≡◌, subst}
-use Rattle.std.specs.Prelude.{IfOk}
-use Rattle.base_roles.specs.declared.entities.UnbondingEntry.{UnbondingEntry}
-use Rattle.base_roles.specs.Orders.{pair_cmp}
+use Rattle.std.proofs.Common.{◌≡◌, subst, IfOk}
+use Rattle.base_roles.specs.{declared.entities.UnbondingEntry.UnbondingEntry, Orders.pair_cmp}
 use Rattle.rule_modules.specs.EntrySlashes.{unbonding_made}
-use Rattle.mod_entries.specs.Kept.{Kept}
-use Rattle.mod_entries.specs.Lists.{list_at, unmatured}
+use Rattle.mod_entries.specs.{Kept.Kept, Lists.{list_at, unmatured}}
 use Rattle.mod_unbonding.specs.Walked.{Key}
 use Rattle.mod_unbonding.proofs.unbondings.Unbondings.left_at.Goals as goal
 

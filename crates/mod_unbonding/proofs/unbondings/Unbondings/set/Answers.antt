@@ -1,10 +1,8 @@
-use Rattle.std.proofs.Common.{◌≡◌, true, subst}
-use Rattle.std.specs.Prelude.{OnOk, OnErr, IsErr}
+use Rattle.std.proofs.Common.{◌≡◌, true, subst, OnOk, OnErr, IsErr}
 use Rattle.base_roles.specs.declared.entities.UnbondingEntry.{UnbondingEntry}
 use Rattle.rule_modules.specs.Unbondings.{with_entries}
 use Rattle.mod_entries.specs.Kept.{Kept, holding, spent_now}
-use Rattle.mod_unbonding.specs.Walked.{Key}
-use Rattle.mod_unbonding.proofs.EntriesLemmas.{with_list-is}
+use Rattle.mod_unbonding.{specs.Walked.Key, proofs.EntriesLemmas.with_list-is}
 use Rattle.mod_unbonding.proofs.unbondings.Unbondings.set.Goals as goal
 
 pub returns-clause-ok : goal.returns-clause-ok

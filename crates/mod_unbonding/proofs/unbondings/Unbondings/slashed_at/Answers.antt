@@ -1,8 +1,6 @@
-use Rattle.std.proofs.Common.{◌≡◌, ◌^◌, ◌≤◌, Some, sym, subst}
-use Rattle.std.specs.Prelude.{All}
+use Rattle.std.proofs.Common.{◌≡◌, ◌^◌, ◌≤◌, Some, sym, subst, All}
 use Rattle.std.proofs.lemmas.List.Elements.{All-weaker}
-use Rattle.base_roles.specs.Entries.{at}
-use Rattle.base_roles.specs.Orders.{pair_cmp}
+use Rattle.base_roles.specs.{Entries.at, Orders.pair_cmp}
 use Rattle.rule_modules.specs.Sound.{UnbondingIsSound}
 use Rattle.mod_unbonding.proofs.EntriesLemmas.{holds_at}
 use Rattle.mod_unbonding.proofs.unbondings.Unbondings.slashed_at.Goals as goal

@@ -1,18 +1,11 @@
-use Rattle.std.proofs.Common.{◌≡◌, ◌∙◌, ℕ, ◌<◌, ◌≤◌, false, sym, ap, subst, arith, rules}
-use Rattle.std.specs.Prelude.{Ok, Err, length, nat_le}
+use Rattle.std.proofs.Common.{◌≡◌, ◌∙◌, ℕ, ◌<◌, ◌≤◌, false, sym, ap, subst, arith, rules, Ok, Err, length, nat_le}
 use Rattle.std.proofs.lemmas.Bool.Decides.{nat_tests}
-use Rattle.base_roles.specs.Ground.{seen}
-use Rattle.base_roles.specs.Staked.{is_bonded, lists_of}
-use Rattle.base_roles.specs.Flow.{◌>>=◌}
-use Rattle.base_roles.specs.Stops.{stop_of_hook}
-use Rattle.base_roles.specs.World.{View}
+use Rattle.base_roles.specs.{Ground.seen, Staked.{is_bonded, lists_of}, Flow.{◌>>=◌}, Stops.stop_of_hook, World.View}
 use Rattle.base_roles.specs.declared.faults.MessageFault.TheVariants as stop
-use Rattle.rule_modules.specs.Unbonding.{shares_unbonded}
-use Rattle.rule_modules.specs.Unbondings.{entries_of, with_entries, grown, undelegated}
+use Rattle.rule_modules.specs.{Unbonding.shares_unbonded, Unbondings.{entries_of, with_entries, grown, undelegated}}
 use Rattle.mod_staking.specs.Calls.{behind_log}
-use Rattle.mod_entries.specs.Answers.{AnswersBoth}
+use Rattle.mod_entries.{specs.Answers.AnswersBoth, proofs.AnswerLemmas.{answers_refused, answers_fault}}
 use Rattle.mod_unbonding.specs.Calls.{moved_out}
-use Rattle.mod_entries.proofs.AnswerLemmas.{answers_refused, answers_fault}
 use Rattle.mod_unbonding.proofs.AskedLemmas.{asked-given, undelegated-asked, undelegated_from, answers_made, entry_made}
 use Rattle.mod_unbonding.proofs.MadeLemmas.{out_most, out_enough, stand-out, made}
 use Rattle.mod_unbonding.proofs.unbondings.Unbondings.undelegate.Goals as goal

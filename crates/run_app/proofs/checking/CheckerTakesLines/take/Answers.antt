@@ -1,7 +1,5 @@
 use Rattle.std.proofs.Common.{inl, inr, refl}
-use Rattle.run_app.proofs.AnswerLemmas.{grown}
-use Rattle.run_app.proofs.CheckLemmas.{unanswered_may, unanswered_unwritten}
-use Rattle.run_app.proofs.ModeLemmas.{quiet_at}
+use Rattle.run_app.proofs.{AnswerLemmas.grown, CheckLemmas.{unanswered_may, unanswered_unwritten}, ModeLemmas.quiet_at}
 use Rattle.run_app.proofs.checking.CheckerTakesLines.take.Goals as goal
 
 pub returns-in-Err-clause-stops : goal.returns-in-Err-clause-stops

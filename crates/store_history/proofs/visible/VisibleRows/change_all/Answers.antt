@@ -1,6 +1,5 @@
 use Rattle.std.proofs.Common.{◌∙◌, ◌+◌, ap, drop}
-use Rattle.base_io.specs.Changes.{changed}
-use Rattle.base_io.proofs.RowLemmas.{next_change}
+use Rattle.base_io.{specs.Changes.changed, proofs.RowLemmas.next_change}
 use Rattle.store_history.proofs.visible.VisibleRows.change_all.Goals as goal
 
 pub loop-change-preserved : goal.loop-change-preserved

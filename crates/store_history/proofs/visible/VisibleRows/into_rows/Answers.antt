@@ -1,8 +1,6 @@
 use Rattle.std.proofs.Common.{◌≡◌, ◌∙◌, List, map}
-use Rattle.base_io.specs.declared.keeper.Row.{Row}
-use Rattle.base_io.specs.Changes.{pair_of}
-use Rattle.store_history.specs.Held.{row_in}
-use Rattle.store_history.proofs.TreeLemmas.{ok_by, rows_are}
+use Rattle.base_io.specs.{declared.keeper.Row.Row, Changes.pair_of}
+use Rattle.store_history.{specs.Held.row_in, proofs.TreeLemmas.{ok_by, rows_are}}
 use Rattle.store_history.proofs.visible.VisibleRows.into_rows.Goals as goal
 
 pub returns-clause-rows : goal.returns-clause-rows

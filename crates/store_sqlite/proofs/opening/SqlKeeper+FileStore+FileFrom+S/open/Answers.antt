@@ -1,8 +1,6 @@
 use Rattle.sqlite_wal.specs.Files.{image_at}
-use Rattle.sqlite.specs.Files.{file_state}
-use Rattle.sqlite.specs.State.{HasCleanDisk}
-use Rattle.store_sqlite.specs.Kept.{told}
-use Rattle.store_sqlite.proofs.Finding.{opened_finds}
+use Rattle.sqlite.specs.{Files.file_state, State.HasCleanDisk}
+use Rattle.store_sqlite.{specs.Kept.told, proofs.Finding.opened_finds}
 use Rattle.store_sqlite.proofs.opening.SqlKeeper+FileStore+FileFrom+S.open.Goals as goal
 
 pub returns-in-Ok-clause-found : goal.returns-in-Ok-clause-found
