@@ -3,7 +3,8 @@
 ghost use Rattle.std.specs.Prelude.{◌≤◌, ◌^◌};
 ghost use Rattle.chain_modules.specs.Kept.{IsNewOver};
 
-use base_roles::{Extra, Ground, HookPair, NoHooks, Overheard};
+use crate::overheard::Overheard;
+use base_roles::{Extra, Ground, HookPair, NoHooks};
 use mod_bank::BankBalances;
 use mod_distribution::Distr;
 use mod_redelegation::Redelegations;
