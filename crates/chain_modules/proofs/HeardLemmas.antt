@@ -1,13 +1,16 @@
 -- Modules to which a listener listens: without it their calls answer what they answer alone, and it holds what was heard.
-use Rattle.std.proofs.Common.{◌≡◌, ◌∙◌, ℕ, ◌≤◌, [], ◌∷◌, ◌++◌, Result, Ok, Err, refl, sym, ap, subst, arith}
-use Rattle.std.specs.Prelude.{⊤, max}
+use Rattle.std.proofs.Common.{◌≡◌, ◌∙◌, ℕ, ◌≤◌, List, [], ◌∷◌, ◌++◌, Result, Ok, Err, refl, sym, ap, subst, arith}
+use Rattle.std.specs.Prelude.{⊤, Bool, max}
+use Rattle.std.proofs.lemmas.List.{same_from_push}
 use Rattle.base_decimals.specs.declared.over.Over.{Over}
 use Rattle.base_roles.specs.declared.faults.HookFault.{HookFault}
 use Rattle.base_roles.specs.declared.faults.MessageFault.{MessageFault}
 use Rattle.base_roles.specs.declared.refusal.Refusal.{Refusal}
 use Rattle.base_roles.specs.Answers.{AnswersAs, AsRuled}
+use Rattle.base_roles.specs.declared.items.Item.{Item}
+use Rattle.base_roles.specs.Extra.{Listens}
 use Rattle.base_roles.specs.Flow.{◌>>=◌}
-use Rattle.base_roles.specs.Hooks.{Stand, Stands}
+use Rattle.base_roles.specs.Hooks.{Tells, Stand, Stands}
 use Rattle.base_roles.specs.Log.{Log}
 use Rattle.base_roles.specs.Owing.{Lists}
 use Rattle.base_roles.specs.Pair.{and_then, given_with}
@@ -30,8 +33,9 @@ use Rattle.mod_staking.specs.Scenes.{IsHooked, IsScene}
 use Rattle.mod_unbonding.specs.Scenes.{IsUnbondingScene}
 use Rattle.chain_modules.specs.declared.modules.Modules.{Modules}
 use Rattle.chain_modules.specs.Heard.{Hears, HearsAfter, heard_hold, heard_shared, heard_tell}
-use Rattle.chain_modules.specs.Kept.{HooksSeen, KeptState, Keeps, ground_of, hooks_hold, hooks_tell, kept_of, listener_of}
+use Rattle.chain_modules.specs.Kept.{HooksSeen, KeptState, Keeps, StandsWhole, ground_of, hooks_hold, hooks_tell, kept_of, listener_of}
 use Rattle.chain_modules.proofs.CarryLemmas.{carried, carried_by, carried_ok, carried_with, told_carried}
+use Rattle.chain_modules.proofs.StandLemmas.{whole_same}
 
 -- ---- what is told
 
@@ -311,3 +315,21 @@ module _ {E P : Type 0} (heard : E → P) (hears : P → Hook → View → P) (o
       subst (λ r. HeardAs hears (r >>= λ d. Ok (with_staked w.mine d)) answer (heard (listener_of new))) (sym e)
       (leaves_heard hears heard new.hooks new.stakes.staking.staked (ground_of new) old.ground.ctx.params.signed_blocks_window w.log w.mine (f (silent_log hears w)) answer
       (subst (λ r. Leaves r new.stakes.staking.staked (heard_hold heard new.hooks) (ground_of new) answer) (ap g (starts_heard w k) ∙ q) h))
+
+-- ---- what stands after a step
+
+module _ {E P : Type 0} (heard : E → P) where
+  -- a step that gives something, and what it gives
+  pub after_gives : {F : Type 0} (stands : KeptState → State → Type 0) (m : Modules E) (q : Result (Hearing P) F) → HearsAfter heard stands q m → (u : Hearing P) × (q ≡ Ok u) × Hears heard stands m u
+  after_gives stands m (Ok u) h = (u, refl, h)
+  after_gives stands m (Err why) h = absurd h
+
+  -- what keeps the same, and whose listener heard the same, hears the same
+  pub hears_same : (old new : Modules E) (w : Hearing P) → kept_of new ≡ kept_of old → heard (listener_of new) ≡ heard (listener_of old) → Hears heard StandsWhole old w → Hears heard StandsWhole new w
+  hears_same old new w same is h = (whole_same (kept_of old) (kept_of new) (unheard w) same h.0, is ∙ h.1)
+
+-- A listener of which the laws say that going back restores what it heard: where its latest mark is closed again, it heard what
+-- it had heard at it.
+pub heard_again : {S H K M P : Type 0} {holds : S → H → Type 0} {tells : Tells H} {hook_marks : S → M} {kept : S → K} {marks : S → List K} {items : K → List Item} {is_kind : Item → Bool} {heard : S → P} {hears : P → Hook → View → P}
+    → Listens holds tells hook_marks kept marks items is_kind heard hears → (old last : S) → marks last ++ kept last ∷ [] ≡ marks old ++ kept old ∷ [] → heard last ≡ heard old
+heard_again {kept = kept} {marks = marks} listens old last e = let same = same_from_push (marks last) (marks old) (kept last) (kept old) e in listens.restores last old same.1
