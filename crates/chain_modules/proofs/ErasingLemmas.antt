@@ -177,7 +177,7 @@ module _ {P : Type 0} (hears : P → Hook → View → P) where
   evidence_unheard e w =
       then_carried (core_with first []) unheard (equivocation_handled (core_slashes (shared_told hears) plain_slash) window_bans e w.hooks.1 (beside_window w))
       (equivocation_handled (core_slashes distribution_told plain_slash) window_bans e w.hooks.1 (carried_core first [] (beside_window w))) _ _
-      (equivocation_carried first [] (shared_told hears) distribution_told shared_unheard e w.hooks.1 (beside_window w)) (λ p. refl)
+      (equivocation_carried first [] (shared_told hears) distribution_told shared_unheard window_bans e w.hooks.1 (beside_window w)) (λ p. refl)
 
   beginning_unheard : (votes : List Vote) (evidence : List Evidence) (w : Hearing P) → begin_block votes evidence (unheard w) ≡ carried_ok unheard (beginning_heard hears votes evidence w)
   beginning_unheard votes evidence w =
