@@ -56,7 +56,7 @@ module _ {P : Type 0} where
 
 module _ {P : Type 0} (hears : P → Hook → View → P) where
   -- what hooks hold without what was heard, and what distribution holds
-  abbrev apart : Overheard P → Hooks
+  abbrev pub apart : Overheard P → Hooks
   apart s = (s.0.0, s.1)
 
   abbrev first : Shared × P → Shared

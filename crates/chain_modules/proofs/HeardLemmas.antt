@@ -107,6 +107,9 @@ module _ {P : Type 0} (hears : P → Hook → View → P) where
   none_above : (a h : ℕ) → max a 0 ≤ h → max (max a 0) 0 ≤ h
   none_above a h l = omega (arith, l)
 
+  none_twice : (a h : ℕ) → max (max a 0) 0 ≤ h → max a 0 ≤ h
+  none_twice a h l = omega (arith, l)
+
   nothing_above : (a h : ℕ) → a ≤ h → max a 0 ≤ h
   nothing_above a h l = omega (arith, l)
 
@@ -123,6 +126,23 @@ module _ {P : Type 0} (hears : P → Hook → View → P) where
               lists = ((stand.lists.0, tt, refl), stand.lists.1, stand.lists.2);
               owed = stand.owed;
               late = none_above (distribution_tells.height held.0) v.ctx.height stand.late;
+              in_order = stand.in_order;
+            },
+          ),
+        )
+
+    -- and the other way round
+    pub apart_stands : (l : Lists) → Stands (heard_hold heard h) (heard_tell hears) v l → Stands (hooks_hold h) hooks_tell v l
+    apart_stands l s =
+        let held = s.0 in
+        let stand : Stand (heard_tell hears) held v l = s.1.1 in (
+          apart held,
+          (
+            (s.1.0.0.0, s.1.0.1),
+            record {
+              lists = (stand.lists.0.0, stand.lists.1, stand.lists.2);
+              owed = stand.owed;
+              late = none_twice (distribution_tells.height held.0.0) v.ctx.height stand.late;
               in_order = stand.in_order;
             },
           ),
@@ -150,6 +170,9 @@ module _ {P : Type 0} (hears : P → Hook → View → P) where
 
       pub heard_scene : IsScene hooks_tell (hooks_hold h) v s → IsScene (heard_tell hears) (heard_hold heard h) v s
       heard_scene k = record { hooked = heard_hooked k.hooked; accounts = k.accounts }
+
+      pub scene_apart : IsScene (heard_tell hears) (heard_hold heard h) v s → IsScene hooks_tell (hooks_hold h) v s
+      scene_apart k = record { hooked = record { sound = k.hooked.sound; stand = apart_stands _ k.hooked.stand }; accounts = k.accounts }
 
       pub heard_unbonding : (u : UnbondingLists) → IsUnbondingScene hooks_tell (hooks_hold h) v s u → IsUnbondingScene (heard_tell hears) (heard_hold heard h) v s u
       heard_unbonding u k = record { hooked = heard_hooked k.hooked; entries = k.entries; accounts = k.accounts }

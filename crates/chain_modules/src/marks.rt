@@ -95,6 +95,7 @@ impl<E: Extra> Modules<E> {
         ensures unmarked { marks_of self.new ≡ no_marks }
         ensures power { self.new.stakes.staking.power_reduction
             ≡ self.old.stakes.staking.power_reduction }
+        ensures listener { listener_of self.new ≡ listener_of self.old }
     {
         self.ground.bank.settle(steps);
         self.stakes.staking.settle(steps);

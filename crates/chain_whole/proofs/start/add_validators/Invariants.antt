@@ -1,5 +1,9 @@
+use Rattle.rule_machine.specs.GenesisState.{validator_added}
+use Rattle.rule_machine.specs.Listening.{overheard_told}
+use Rattle.chain_whole.proofs.HearLemmas.{StepsHeard}
 use Rattle.chain_whole.proofs.AddingLemmas.{EnteredSoFar}
 use Rattle.chain_whole.proofs.start.add_validators.Given as goal
 
 abbrev pub invariant-loop-v : goal.invariant-loop-v
 invariant-loop-v g l = EnteredSoFar l.genesis l.v-index l.initial.modules l.modules
+    × StepsHeard g.E.Extra.heard (validator_added (overheard_told g.E.Extra.hears)) l.genesis.validators l.v-index l.initial.modules l.modules
