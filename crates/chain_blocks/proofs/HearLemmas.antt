@@ -56,7 +56,7 @@ module _ {E P : Type 0} (heard : E → P) (hears : P → Hook → View → P) (o
       → (w : Hearing P) → Hears heard Keeps old w → OnOk answer (HearsAfter heard Keeps (set_heard hears w) new)
   set_hears (Ok a) told leads w s =
       let f = set_updated (overheard_told hears) in
-      after_step heard Keeps new hears (set_step (unheard w)) (set_heard hears w) WantsMemory ExceedsAs tt a (set_unheard hears w) (leads (unheard w) s.0)
+      after_step heard Keeps new hears (set_step (unheard w)) (set_heard hears w) WantsMemory ExceedsAs _ tt a (set_unheard hears w) (leads (unheard w) s.0)
       (led_heard heard hears old new f (set_updated (heard_tell hears).told) w s.0
       (ap f (log_again hears w) ∙ set_carried (λ (x : Overheard P). x) w.log (overheard_told hears) (overheard_told hears) (λ h hook v. told_same w.log (overheard_told hears h hook v)) (silent_log hears w))
       (set_carried (heard_as hears old.ground.ctx.params.signed_blocks_window) [] (overheard_told hears) (heard_tell hears).told (told_heard hears old.ground.ctx.params.signed_blocks_window) (silent_log hears w)) (Ok a)
@@ -71,7 +71,7 @@ module _ {E P : Type 0} (heard : E → P) (hears : P → Hook → View → P) (o
       → (w : Hearing P) → Hears heard StandsWhole old w → OnOk answer (HearsAfter heard StandsWhole (maturing_heard hears w) new)
   matured_hears (Ok a) told leads w s =
       let f = validators_matured (overheard_told hears) in
-      after_step heard StandsWhole new hears (maturing_step (unheard w)) (maturing_heard hears w) WantsMemory ExceedsAs tt a (maturing_unheard hears w) (leads (unheard w) s.0)
+      after_step heard StandsWhole new hears (maturing_step (unheard w)) (maturing_heard hears w) WantsMemory ExceedsAs _ tt a (maturing_unheard hears w) (leads (unheard w) s.0)
       (led_heard heard hears old new f (validators_matured (heard_tell hears).told) w s.0.keeps
       (ap f (log_again hears w) ∙ matured_all_carried (λ (x : Overheard P). x) w.log (overheard_told hears) (overheard_told hears) (λ h hook v. told_same w.log (overheard_told hears h hook v)) (silent_log hears w))
       (matured_all_carried (heard_as hears old.ground.ctx.params.signed_blocks_window) [] (overheard_told hears) (heard_tell hears).told (told_heard hears old.ground.ctx.params.signed_blocks_window) (silent_log hears w)) (Ok a)
@@ -130,7 +130,7 @@ module _ {E P : Type 0} (heard : E → P) (hears : P → Hook → View → P) (l
         → VoteAnswers (voted (core_slashes (heard_shared hears).told plain_slash) t w.hooks.1 starts_shared) stands (stakes_kept last.stakes) (shared_hold heard last) (ground_of last) (Ok tt)
         → HearsAfter heard (AreBegun ts) (vote_heard hears t w) last
     vote_hears t ts stands s leads told =
-        after_step heard (AreBegun ts) last hears (vote_step t (unheard w)) (vote_heard hears t w) WantsMemory ExceedsAs tt tt (vote_unheard hears t w) leads
+        after_step heard (AreBegun ts) last hears (vote_step t (unheard w)) (vote_heard hears t w) WantsMemory ExceedsAs _ tt tt (vote_unheard hears t w) leads
         (by (voted (core_slashes (shared_told hears) plain_slash) t w.hooks.1 (beside_window w))
         (subst (λ r. VoteAnswers r stands (stakes_kept last.stakes) (shared_hold heard last) (ground_of last) (Ok tt))
         (ap (voted (core_slashes (heard_shared hears).told plain_slash) t w.hooks.1) (same_start s.0.keeps) ∙ voted_carried (λ (x : Shared × P). x) [] (shared_told hears) (heard_shared hears).told (shared_heard hears) t w.hooks.1 (beside_window w)) told))
@@ -144,7 +144,7 @@ module _ {E P : Type 0} (heard : E → P) (hears : P → Hook → View → P) (l
         → Handles (equivocation_handled (core_slashes (heard_shared hears).told plain_slash) kept_bans e new.hooks.second.kept starts_shared) last.hooks.second.kept (stakes_kept last.stakes) (shared_hold heard last) (ground_of last) (Ok done)
         → HearsAfter heard (AreBegun []) (evidence_heard hears e w) last
     evidence_hears e done s leads told =
-        after_step heard (AreBegun []) last hears (evidence_step e (unheard w)) (evidence_heard hears e w) WantsMemory ExceedsAs tt tt (evidence_unheard hears e w) leads
+        after_step heard (AreBegun []) last hears (evidence_step e (unheard w)) (evidence_heard hears e w) WantsMemory ExceedsAs _ tt tt (evidence_unheard hears e w) leads
         (by (equivocation_handled (core_slashes (shared_told hears) plain_slash) window_bans e w.hooks.1 (beside_window w))
         (subst (λ r. AsPlain r) (ap (equivocation_handled (core_slashes (heard_shared hears).told plain_slash) window_bans e w.hooks.1) (same_start s.0.keeps)
             ∙ equivocation_carried (λ (x : Shared × P). x) [] (shared_told hears) (heard_shared hears).told (shared_heard hears) window_bans e w.hooks.1 (beside_window w))

@@ -240,10 +240,10 @@ module _ {P : Type 0} (hears : P → Hook → View → P) where
 
 module _ {E P : Type 0} (heard : E → P) where
   -- Modules that stand so for what a step gives, and whose listener holds what was heard of it, hear it.
-  pub after_step : {F A B C D : Type 0} (stands : KeptState → State → Type 0) (m : Modules E) (hears : P → Hook → View → P) (r : Result State F) (q : Result (Hearing P) F) (W : D → Type 0) (X : F → D → Type 0) (a : A) (b : B) → r ≡ carried_ok unheard q
+  pub after_step : {F A B D : Type 0} (stands : KeptState → State → Type 0) (m : Modules E) (hears : P → Hook → View → P) (r : Result State F) (q : Result (Hearing P) F) (W : D → Type 0) (X : F → D → Type 0) (C : Type 0) (a : A) (b : B) → r ≡ carried_ok unheard q
       → AsRuled r (Ok a) (λ due y. stands (kept_of m) due) W X → HeardAs hears {D = C} q (Ok b) (heard (listener_of m)) → HearsAfter heard stands q m
-  after_step stands m hears r (Ok w) W X a b e s h = (subst (λ x. AsRuled x (Ok a) (λ due y. stands (kept_of m) due) W X) e s, h)
-  after_step stands m hears r (Err why) W X a b e s h = subst (λ x. AsRuled x (Ok a) (λ due y. stands (kept_of m) due) W X) e s
+  after_step stands m hears r (Ok w) W X C a b e s h = (subst (λ x. AsRuled x (Ok a) (λ due y. stands (kept_of m) due) W X) e s, h)
+  after_step stands m hears r (Err why) W X C a b e s h = subst (λ x. AsRuled x (Ok a) (λ due y. stands (kept_of m) due) W X) e s
 
   -- A step that calls no hook, where the listener stays.
   pub after_silence : {F A D : Type 0} (stands : KeptState → State → Type 0) (old new : Modules E) (step : State → Result State F) (w : Hearing P) (W : D → Type 0) (X : F → D → Type 0) (a : A)

@@ -38,7 +38,7 @@ module _ {E P : Type 0} (heard : E → P) (hears : P → Hook → View → P) (o
   -- A message that ends as the machine's, and whose listener holds what was heard of it, is heard.
   message_hears : {A : Type 0} (rule : Effect) (on : Hearing P → Result (Hearing P) Refusal) (w : Hearing P) (answer : Result A MessageFault) → rule (unheard w) ≡ carried_ok unheard (on w) → MessageEnds (rule (unheard w)) (kept_of new) (dropped answer)
       → HeardAs hears (on w) answer (heard (listener_of new)) → OnOk answer (HearsAfter heard StandsWhole (on w) new)
-  message_hears rule on w (Ok a) e ends h = after_step heard StandsWhole new hears (rule (unheard w)) (on w) StopsForMemory RefusesAs tt a e ends h
+  message_hears rule on w (Ok a) e ends h = after_step heard StandsWhole new hears (rule (unheard w)) (on w) StopsForMemory RefusesAs _ tt a e ends h
   message_hears rule on w (Err fault) e ends h = tt
 
   -- ---- the five messages over hooks
