@@ -69,4 +69,6 @@ sys.exit(1 if bad else 0)
 PYTHON
     rm -rf "$run"
 done
+# the payments of one case, from its input alone
+[ $# -gt 0 ] || python3 checks/payments.py || status=1
 exit $status

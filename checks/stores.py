@@ -481,6 +481,22 @@ def try_refused(room, genesis, block, first):
     ask(changes(first, rows_of(room / "refused")), [HEAD], "the rows that a refused transaction changes")
 
 
+def try_cut(room):
+    """A third line that ends in its middle: what stands before it is printed and kept, and a resume with the whole line prints
+    the rest of one run."""
+    lines = pathlib.Path("examples/two-blocks.jsonl").read_bytes().splitlines(keepends=True)
+    whole, store = pathlib.Path("examples/two-blocks.out").read_bytes(), room / "cut"
+    ended, printed = ran(store, ["replay"], b"".join(lines[:2]) + lines[2][:len(lines[2]) // 2])
+    ask(ended, (2, "stakeplay: line 3: not JSON"), "a replay whose third line is cut")
+    ask(printed, whole[:whole.index(b'{"height":2,')], "what a replay prints whose third line is cut")
+    for name, given in (("one-block", lines[:2]), ("two-blocks", lines)):
+        ran(room / name, ["replay"], b"".join(given))
+    ask(rows_of(store) == rows_of(room / "one-block"), True, "whether a replay keeps what stands before a cut line, and that alone")
+    ended, rest = ran(store, ["resume"], lines[2])
+    ask((ended, printed + rest), (DONE, whole), "a resume with the line that was cut, behind what was printed before")
+    ask(rows_of(store) == rows_of(room / "two-blocks"), True, "whether a resume with the line that was cut keeps what one run keeps")
+
+
 def raw(decimal):
     """A decimal in units of 10^-18."""
     return int(decimal.replace(".", ""))
@@ -586,6 +602,31 @@ def try_history(room):
     return room / "kept"
 
 
+def try_past_send(room):
+    """The worked example of one send with a history: what its payer had at each height."""
+    store, payer = room / "past-send", "1" * 40
+    ask(ran(store, ["keep", "replay"], pathlib.Path("examples/one-send.jsonl").read_bytes()),
+        (DONE, pathlib.Path("examples/one-send.out").read_bytes()), "keep replay of one send")
+    for height, amount in ((0, 1000), (1, 890)):
+        line = b'{"address":"%s","coins":[{"amount":"%d","denom":"uatom"}],"kind":"account"}\n' % (payer.encode(), amount)
+        ask(ran(store, ["past", str(height), "query", "account", payer]), (DONE, line), f"what the payer had at {height}")
+    ask(ran(store, ["past", "2", "query", "account", payer]), (PAST, b""), "what the payer had at 2")
+
+
+def try_past_first_format(room):
+    """A history that begins on rows of the first format, at height 5: they change their format then, and nothing before is told."""
+    new, old = room / "five", room / "first-five"
+    ran(new, ["replay"], pathlib.Path("examples/history.jsonl").read_bytes())
+    changed(new, old, all_first)
+    ask(ran(old, ["keep", "resume"]), ran(new, ["resume"]), "keep resume on rows of the first format")
+    rows = rows_of(old)
+    ask(visible(rows) == rows_of(new), True, "whether keep resume brings rows of the first format to the second")
+    ask({name: body for name, body in rows.items() if name not in visible(rows)}, {key("61"): (5).to_bytes(8, "big")}, "the history that begins then")
+    ask(ran(old, ["past", "5", "query", "supply"]), ran(new, ["query", "supply"]), "supply of the height at which a history begins")
+    for height in (4, 6):
+        ask(ran(old, ["past", str(height), "query", "supply"]), (PAST, b""), f"supply of {height}, where a history begins at 5")
+
+
 def try_bad_histories(room, good):
     """Histories out of form are refused by each command that knows them, and left byte for byte as they were."""
     kept = [name for name in rows_of(good) if name[:1] == b"\x60"]
@@ -630,6 +671,9 @@ def main():
         try_new(room)
         try_held(room)
         try_one_send(room)
+        try_cut(room)
+        try_past_send(room)
+        try_past_first_format(room)
         try_tally(room)
         try_bad_histories(room, try_history(room))
     for line in bad:

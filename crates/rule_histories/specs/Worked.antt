@@ -1,11 +1,13 @@
 -- Worked rows of sends and fees, and of geneses without validators, each by computing.
-use Rattle.std.specs.Prelude.{◌≡◌, ℕ, ◌+◌, ◌-◌, ◌*◌, ◌^◌, true, List, [], ◌∷◌, Some, None, replicate, codes, Ok}
+use Rattle.std.specs.Prelude.{◌≡◌, ℕ, ◌+◌, ◌-◌, ◌*◌, ◌^◌, true, List, [], ◌∷◌, ◌++◌, map, Some, None, replicate, codes, Ok}
 use Rattle.base_types.specs.declared.account.Account.{Account}
 use Rattle.base_types.specs.declared.account.Account.TheVariants as account
 use Rattle.base_types.specs.declared.account.Module.TheVariants.{FeeCollector, Bonded}
 use Rattle.base_coins.specs.Coins.{Money, sorted_coins}
 use Rattle.base_roles.specs.declared.facts.Fact.{Fact}
 use Rattle.base_roles.specs.declared.facts.Fact.TheVariants.{Transfer}
+use Rattle.base_roles.specs.declared.items.Item.{Item}
+use Rattle.base_roles.specs.declared.items.Item.TheVariants as item
 use Rattle.base_roles.specs.declared.params.Params.{Params}
 use Rattle.base_roles.specs.declared.refusal.Refusal.TheVariants.{InsufficientFunds, ModuleRecipient, NonPositive}
 use Rattle.base_roles.specs.Holdings.{Holdings}
@@ -22,6 +24,7 @@ use Rattle.rule_modules.specs.Chain.{State}
 use Rattle.rule_machine.specs.Blocks.{block_fault}
 use Rattle.rule_machine.specs.GenesisConditions.{start_condition}
 use Rattle.rule_machine.specs.GenesisState.{chain_started, empty_over}
+use Rattle.rule_machine.specs.Items.{items_of}
 use Rattle.rule_machine.specs.Machine.{TxStep, run_of, tx_applied}
 
 -- ---- what the rows are about
@@ -109,9 +112,16 @@ OneAccountStarts = chain_started one_account ≡ Ok (record { facts = []; state 
 
 -- ---- runs
 
+-- a first block of one transaction, five seconds later
+abbrev pub first_with : Tx → Block
+first_with tx = block_at 1 (new_year + 5 * 10 ^ 9) (tx ∷ [])
+
 -- a block of one send of 100 uatom with a fee of 10: the account keeps 890
+abbrev pub one_send : Block
+one_send = first_with (tx_of (atoms 10) (send_to (account.User twos) (atoms 100) ∷ []))
+
 abbrev pub OneSend : Type 0
-OneSend = run_of (block_at 1 (new_year + 5 * 10 ^ 9) (tx_of (atoms 10) (send_to (account.User twos) (atoms 100) ∷ []) ∷ []) ∷ []) first_state ≡ record {
+OneSend = run_of (one_send ∷ []) first_state ≡ record {
   reports = record {
     height = 1;
     time = new_year + 5 * 10 ^ 9;
@@ -145,6 +155,38 @@ TimeAgain = block_fault 0 new_year (block_at 1 new_year []) ≡ None
 -- the first nanosecond of the year 9900
 abbrev pub TimePast : Type 0
 TimePast = block_fault 0 new_year (block_at 1 (250_246_627_200 * 10 ^ 9) []) ≡ Some (BadTime new_year)
+
+-- ---- what a block changes of what is kept
+
+-- the balance of an account of uatom
+abbrev pub has_atoms : Account → ℕ → Item
+has_atoms who n = item.Balance who (codes "uatom") n
+
+-- all items of a state of accounts alone, at a height and time: with the parameters, balances, one supply and an empty pool
+abbrev pub items_with : ℕ → ℕ → List Item → List Item
+items_with height time balances =
+    item.Head height time ∷ item.Parameters some_params ∷ balances ++ item.Supply (codes "uatom") 1000 ∷ item.Pool [] ∷ []
+
+-- the items behind a first block
+abbrev pub kept_behind : Block → List Item
+kept_behind b = items_of (run_of (b ∷ []) first_state).state
+
+-- The block of one send changes four items: the head, and three balances, of which two are new.
+pub record SendChangesFour : Type 0 where
+  pub before : items_of first_state ≡ items_with 0 new_year (has_atoms (account.User ones) 1000 ∷ [])
+  pub behind : kept_behind one_send
+      ≡ items_with 1 (new_year + 5 * 10 ^ 9)
+      (has_atoms (account.User ones) 890 ∷ has_atoms (account.User twos) 100 ∷ has_atoms collector 10 ∷ [])
+
+-- two sends of 600 from the account of 1,000, without a fee
+abbrev pub two_sends : Block
+two_sends = first_with (tx_of [] (send_to (account.User twos) (atoms 600) ∷ send_to (account.User twos) (atoms 600) ∷ []))
+
+-- The second is refused, and the first is undone: the block changes the head alone.
+pub record RefusedChangesHead : Type 0 where
+  pub refused : map (λ b. map (λ t. t.outcome) b.txs) (run_of (two_sends ∷ []) first_state).reports
+      ≡ (Refused 1 InsufficientFunds ∷ []) ∷ []
+  pub behind : kept_behind two_sends ≡ items_with 1 (new_year + 5 * 10 ^ 9) (has_atoms (account.User ones) 1000 ∷ [])
 
 -- ---- transactions
 

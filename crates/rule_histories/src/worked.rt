@@ -1,6 +1,6 @@
 //! Worked rows, as functions that do nothing: their contracts are the rows.
 
-ghost use Rattle.rule_histories.specs.Worked.{OneAccountStarts, OneSend, HeightMissed, TimeBefore, TimeAgain, TimePast, SecondSendShort, TwoDenominations, FeeTooHigh, ToAModule, NoCoins, MayStart, ParameterOutOfRange, ModuleAccount, AccountTwice, TooMuch};
+ghost use Rattle.rule_histories.specs.Worked.{OneAccountStarts, OneSend, SendChangesFour, RefusedChangesHead, HeightMissed, TimeBefore, TimeAgain, TimePast, SecondSendShort, TwoDenominations, FeeTooHigh, ToAModule, NoCoins, MayStart, ParameterOutOfRange, ModuleAccount, AccountTwice, TooMuch};
 ghost use Rattle.rule_histories.specs.WholeRows.{MayStartChain, WrongBeginnings, ValidatorsTwice, WrongRates, WrongDelegations, TooMuchDelegated, FirstIsNamed, WrongPlaces, WrongVotes, WrongEvidence, VotesComeFirst, LimitsOfBeginnings, OutcomesOfMessages};
 ghost use Rattle.rule_histories.specs.HistoryRows.{FeesOfThirtyBlocks, AllWithdraw};
 ghost use Rattle.rule_histories.specs.LifeRows.{GenesisIsTold, BlocksAreTold, EndIsReported};
@@ -15,6 +15,8 @@ ghost use Rattle.rule_histories.specs.SoundRows.{SoundnessIsMet};
 pub fn machine_by_example()
     ensures starts { OneAccountStarts }
     ensures one_send { OneSend }
+    ensures four_change { SendChangesFour }
+    ensures head_changes { RefusedChangesHead }
     ensures height_missed { HeightMissed }
     ensures time_before { TimeBefore }
     ensures time_again { TimeAgain }

@@ -1,5 +1,5 @@
 -- Worked rows of shares over fewer tokens, and of a validator that is removed and created again.
-use Rattle.std.specs.Prelude.{◌≡◌, ℕ, ◌*◌, ◌^◌, false, List, [], ◌∷◌, Option, Some, None, option_map, Result, Ok, Err}
+use Rattle.std.specs.Prelude.{◌≡◌, ℕ, ◌-◌, ◌*◌, ◌^◌, false, List, [], ◌∷◌, Option, Some, None, option_map, Result, Ok, Err}
 use Rattle.base_types.specs.declared.account.Account.TheVariants as account
 use Rattle.base_types.specs.declared.account.Module.TheVariants as holder
 use Rattle.base_types.specs.declared.status.BondStatus.TheVariants.{Unbonded}
@@ -11,6 +11,8 @@ use Rattle.base_roles.specs.declared.entities.Validator.{Validator}
 use Rattle.base_roles.specs.declared.refusal.Refusal.{Refusal}
 use Rattle.base_roles.specs.declared.refusal.Refusal.TheVariants.{Overflow}
 use Rattle.base_decimals.specs.Decimals.{quotient_over}
+use Rattle.base_decimals.specs.Fractions.{Fraction}
+use Rattle.base_shares.specs.Burns.{ratio_of, unit}
 use Rattle.base_roles.specs.World.{over_mine}
 use Rattle.base_roles.specs.Holdings.{no_holdings}
 use Rattle.base_roles.specs.Staked.{validator_at, delegation}
@@ -21,6 +23,8 @@ use Rattle.rule_modules.specs.Periods.{Periods, Rewards, start_of, slashed_stake
 use Rattle.rule_modules.specs.Slashing.{slash_fraction}
 use Rattle.rule_modules.specs.Unbondings.{entries_of}
 use Rattle.rule_modules.specs.Fixtures.{addr, cons, user, coin, decimals, params, time_of, validates, given, balance}
+use Rattle.rule_modules.specs.Ideal.{whole, ◌⊕◌, ◌⊗◌}
+use Rattle.law_rewards.specs.Worked.{IsWorth}
 
 -- an unbonded validator with 100 shares over 99 tokens, all its operator's
 abbrev pub hundred_over_99 : Validator
@@ -68,10 +72,14 @@ standing = record {
 }
 
 -- what is asked of the state that effects leave, one after another
-abbrev pub left_by : {A : Type 0} → List Effect → (State → A) → Result A Refusal
-left_by effects f = do
-  w ← each (λ effect s. effect s) effects standing
+abbrev pub left_of : {A : Type 0} → State → List Effect → (State → A) → Result A Refusal
+left_of from effects f = do
+  w ← each (λ effect s. effect s) effects from
   Ok (f w)
+
+-- the same of the state above
+abbrev pub left_by : {A : Type 0} → List Effect → (State → A) → Result A Refusal
+left_by effects f = left_of standing effects f
 
 -- the amounts of the unbonding entries of the operator, and its validator's tokens and shares
 abbrev pub entries_and_stake : State → List ℕ × Option (ℕ × ℕ)
@@ -136,3 +144,52 @@ abbrev pub BurningOneOfThree : Type 0
 BurningOneOfThree =
     (slash_fraction 1 3 ≡ 333333333333333334)
     × (slashed_stake (10 ^ 18) (slash_fraction 1 3) ≡ 666666666666666666)
+
+-- ---- what a removal leaves of the worth of others
+
+-- the shares that are not undelegated with 10
+abbrev pub others : ℕ
+others = 89898989898989898990
+
+-- the same validator, where its operator has these, and another user has the rest
+abbrev pub two_delegations : State
+two_delegations = record standing {
+  mine = record standing.mine {
+    staked = record standing.mine.staked {
+      delegations = ((addr 1, addr 1), others) ∷ ((addr 1, addr 2), 100 * 10 ^ 18 - others) ∷ [];
+    };
+  };
+  hooks = (
+    record (shared_in standing) {
+      rewards = record (shared_in standing).rewards {
+        starts =
+            ((addr 1, addr 1), record { period = 2; stake = 89 * 10 ^ 18; height = 3 })
+            ∷ ((addr 1, addr 2), record { period = 2; stake = 10 ^ 19 - 1; height = 3 })
+            ∷ [];
+      };
+    },
+    [],
+  );
+}
+
+-- the validator's tokens and shares, and the shares of its operator and of the other user
+abbrev pub stakes_of_two : State → Option (ℕ × ℕ) × Option ℕ × Option ℕ
+stakes_of_two w = (
+  option_map (λ v. (v.tokens, v.shares)) (validator_at w.mine.staked (addr 1)),
+  delegation w.mine.staked (addr 1) (addr 1),
+  delegation w.mine.staked (addr 2) (addr 1),
+)
+
+-- so many shares are worth this, in exact tokens
+abbrev pub worth : ℕ → ℕ → ℕ → Fraction
+worth part tokens shares = ratio_of (part * tokens) shares
+
+-- The user undelegates 10, which is all that it has. The operator's shares stay, and were worth 89.0000000000000000001
+-- tokens; they are worth 89 then, which is less by a tenth of a unit.
+pub record OthersLoseATenth : Type 0 where
+  pub before : stakes_of_two two_delegations ≡ (Some (99, 100 * 10 ^ 18), Some others, Some (100 * 10 ^ 18 - others))
+  pub removal : left_of {A = Option (ℕ × ℕ) × Option ℕ × Option ℕ} two_delegations (undelegate (addr 2) (addr 1) (coin 10) ∷ []) stakes_of_two
+      ≡ Ok (Some (89, others), Some others, None)
+  pub worth_before : IsWorth (worth others 99 (100 * 10 ^ 18)) (ratio_of 890000000000000000001 (10 ^ 19))
+  pub worth_then : IsWorth (worth others 89 others) (whole 89)
+  pub a_tenth : IsWorth (worth others 99 (100 * 10 ^ 18)) (worth others 89 others ⊕ ratio_of 1 10 ⊗ unit)

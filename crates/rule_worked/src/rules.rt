@@ -1,7 +1,7 @@
 //! Worked rows of the rules, each a theorem that its function's contract names: what small states and blocks come to.
 
 ghost use Rattle.rule_worked.specs.Fees.{WithTaxAndCommission, WithoutTaxAndCommission, SharedByThree, RewardIsPending, DelegatingWithReward, DelegatingTooMuch, NothingLeftToDelegate, AllocatedWithoutTokens, WithdrawingWithoutTokens, PoolAndCommission};
-ghost use Rattle.rule_worked.specs.Shares.{DelegatingTen, UndelegatingTen, UndelegatingAlmostAll, StartedAtOldTokens, IssuingTooMany, UndelegatingAll, NothingIsLeft, CreatedAgain, BurningOneOfThree};
+ghost use Rattle.rule_worked.specs.Shares.{DelegatingTen, UndelegatingTen, UndelegatingAlmostAll, StartedAtOldTokens, IssuingTooMany, UndelegatingAll, NothingIsLeft, CreatedAgain, BurningOneOfThree, OthersLoseATenth};
 ghost use Rattle.rule_worked.specs.Parameters.{WindowShrinks, ShrunkIsPunished, WindowGrows, GrownCounts, OutOfRange, Fixed, NotByOthers, TaxOfAll, ChangeIsTakenBack, RefusedBehindIt};
 ghost use Rattle.rule_worked.specs.Slashes.{UnbondingsUnderEvidence, SlashedTwice, WithdrawnAfterBoth, WithdrawnInTheBlock, FollowedIntoAnEntry, WithdrawnBehindTheEntry, AllBurnedInAnEntry, PunishedOnce, NeverUnjailed, TooOld, FiveMissed, SixMissed, StillInJail, OutOfJail};
 ghost use Rattle.rule_worked.specs.Stakes.{TransitiveIsRefused, LowerIsBonded, SetChanges, UnbondingsMature, CommissionEdits, Cancelling};
@@ -44,6 +44,11 @@ pub fn shares_over_fewer_tokens()
     ensures started { StartedAtOldTokens }
     ensures too_many { IssuingTooMany }
     ensures burned { BurningOneOfThree }
+{}
+
+/// What is undelegated lowers what the shares of others are worth, by a tenth of a unit of 10^-18.
+pub fn worth_of_others()
+    ensures { OthersLoseATenth }
 {}
 
 /// An unbonded validator goes with its last shares, and its operator creates one again.

@@ -154,6 +154,27 @@ pub tried_at_block : (due : Result (Result (List ℕ) Stopped) Refusal) (w : Opt
     → Tries due w w (status_of (not_applied n f))
 tried_at_block due w why n f e h = tried_to_block due w n f (subst (IsTrialFault due) e h)
 
+-- what was made is of one kind
+pub told_otherwise : {T E : Type 0} (r : Result T E) (x : T) (e : E) (P : Type 0) → r ≡ Ok x → r ≡ Err e → P
+told_otherwise r x e P made failed = absurd cc
+
+pub some_otherwise : {T E : Type 0} (r : Result (Option T) E) (o : Option T) (x : T) (P : Type 0) → r ≡ Ok o → o ≡ Some x → r ≡ Ok None → P
+some_otherwise r o x P made some none = absurd cc
+
+-- and stopped at one block
+pub stopped_so : {X : Type 0} (r : Result X TrialFault) (e : TrialFault) (n m : ℕ) (f g : BlockFault) (s : Status) → r ≡ Err e → e ≡ trial.Block n f → r ≡ Err (trial.Block m g) → s ≡ status_of (not_applied n f)
+    → s ≡ status_of (not_applied m g)
+stopped_so r e n m f g s made is due h =
+    let one : trial.Block n f ≡ trial.Block m g = cc in
+    h ∙ ap end_of one
+  where
+    end_of : TrialFault → Status
+    end_of (trial.Block k why) = status_of (not_applied k why)
+    end_of trial.NoMemory = NoMemory
+
+pub no_block : {X : Type 0} (r : Result X TrialFault) (e : TrialFault) (n : ℕ) (f : BlockFault) (P : Type 0) → r ≡ Err e → e ≡ trial.NoMemory → r ≡ Err (trial.Block n f) → P
+no_block r e n f P made is due = absurd cc
+
 pub tried_without_memory : (due : Result (Result (List ℕ) Stopped) Refusal) (w : Option (List ℕ)) → Tries due w w NoMemory
 tried_without_memory (Ok (Ok summary)) w = nothing w _ (record { rest = summary; text_is = refl })
 tried_without_memory (Ok (Err stopped)) w = nothing w _ (inr refl, refl)

@@ -18,7 +18,7 @@ use Rattle.store_history.proofs.PastLemmas.{is_one}
 use Rattle.store_resuming.specs.declared.fault.RestoreFault.{RestoreFault}
 use Rattle.store_resuming.specs.declared.fault.RestoreFault.TheVariants as fault
 use Rattle.store_resuming.specs.Restored.{AreLoaded, AreOfNone, AreStateRows, HaveSameRows}
-use Rattle.store_resuming.specs.Restoring.{InOrder, IsChainOf, IsNoChain}
+use Rattle.store_resuming.specs.Restoring.{InOrder, IsChainOf, IsNoChain, IsUnrestored}
 use Rattle.run_app.specs.declared.status.Status.{Status}
 use Rattle.run_app.specs.declared.status.Status.TheVariants.{Done, Usage, BadInput, Limit, ReadFault, WriteFault, KeepFault, NoMemory, BadStore, WrongStore, NotFound, NoPast}
 use Rattle.run_app.specs.Histories.{AreBadAt, AreRowsAt, AskedAt, FitsPast, IsRefusedAt, IsUnasked, PastAnswers, PastEnds, TellPast, status_of_past}
@@ -86,6 +86,14 @@ chain_unkept stood fault.NoMemory none e = cc
 chain_unkept stood fault.Empty none e = none
 chain_unkept stood fault.Unsound none e = cc
 
+-- ---- rows that were not loaded, or are none
+
+pub not_loaded : (height : ℕ) (f : RestoreFault) (rows rows' : Option (List Pair)) (honest' : Type 0) → f ≢ fault.Unsound → IsUnrestored rows rows' honest' f → IsUnasked height (status_of_restore f) rows rows' honest'
+not_loaded height fault.Failed rows rows' honest' unjudged h = tt
+not_loaded height fault.NoMemory rows rows' honest' unjudged h = tt
+not_loaded height fault.Empty rows rows' honest' unjudged h = (refl, h)
+not_loaded height fault.Unsound rows rows' honest' unjudged h = absurd (unjudged refl)
+
 -- ---- rows that were loaded
 
 module _ (rows rows' : Option (List Pair)) (honest' : Type 0) (list : List Pair) (are : IfSome rows' (λ now. list ≡ now)) (up : IfSome rows' Rises) (told : honest' → IsSome rows → IsSome rows') where
@@ -95,9 +103,6 @@ module _ (rows rows' : Option (List Pair)) (honest' : Type 0) (list : List Pair)
       by : (o : Option (List Pair)) → IfSome o (λ now. list ≡ now) → IfSome o Rises → IfSome o P
       by None same rises = tt
       by (Some now) same rises = subst P same (h (subst (λ (ps : List Pair). Rises ps) (sym same) rises))
-
-  pub none_loaded : list ≡ [] → AreLoaded rows rows' honest' (λ now. now ≡ [])
-  none_loaded none = in_order (λ now. now ≡ []) (λ rises. none)
 
   unasked : (height : ℕ) → list ≢ [] → (s : Status) → IsRefusedAt height (InOrder list) s → IsUnasked height s rows rows' honest'
   unasked height some Done h = absurd h

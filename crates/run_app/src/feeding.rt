@@ -1,6 +1,6 @@
 //! The input in pieces, as a source gives them: a piece is cut into lines, and each line that has ended is answered.
 
-ghost use Rattle.std.specs.Prelude.{◌≡◌, ◌≤◌, ◌<◌, ◌^◌, ◌+◌, ◌∷◌, ◌++◌, [], ℕ, IfErr, IfSome, IfNone, OnOk, OnErr, IsErrOf, length, take, drop, slice_index};
+ghost use Rattle.std.specs.Prelude.{◌≡◌, ◌≤◌, ◌<◌, ◌^◌, ◌+◌, ◌∷◌, ◌++◌, [], ℕ, Err, IfErr, IfSome, IfNone, OnOk, OnErr, IsErrOf, length, take, drop, slice_index};
 ghost use Rattle.base_io.specs.Outside.{Rose};
 ghost use Rattle.run_app.specs.Lines.{whole_from};
 ghost use Rattle.run_app.specs.Kept.{Began, IsLater, Keeping, LeftIn};
@@ -48,6 +48,9 @@ pub(crate) fn extend(number: u64, line: &mut Vec<u8>, bytes: &[u8]) -> Result<()
     ensures line { OnOk result (line.new.items ≡ line.old.items ++ bytes.now) }
     ensures short { OnOk result (length line.new.items ≤ longest) }
     ensures err { IfErr result (λ stop. NotExtended stop number line.old.items bytes.now) }
+    // That it is too long takes no memory to tell.
+    ensures long { longest < length line.old.items + length bytes.now
+        → result ≡ Err (LineStop.Long number) }
 {
     if bytes.len() > LONGEST - line.len() {
         return Err(LineStop::Long(number));

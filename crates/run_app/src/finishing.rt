@@ -1,6 +1,6 @@
 //! The end of the output: the answer to a last line that came without its end, then the report, then the flush.
 
-ghost use Rattle.std.specs.Prelude.{◌≡◌, ◌≤◌, ◌⊎◌, true, IfErr, OnOk, IsErrOf, []};
+ghost use Rattle.std.specs.Prelude.{◌≡◌, ◌≤◌, ◌⊎◌, true, None, Err, IfErr, OnOk, IsErrOf, []};
 ghost use Rattle.base_io.specs.Outside.{Rose};
 ghost use Rattle.run_app.specs.Lines.{last_line};
 ghost use Rattle.run_app.specs.Kept.{Began, IsLater, Keeping, LeftIn};
@@ -29,6 +29,8 @@ fn report<K: Sink>(
     ensures stops { (s : Standing) → StandsAt chain.now s → IfErr result
         (FinishStops form (λ _ _. Unit {0}) 1 s [] (K.written sink.old) (K.written sink.new)) }
     ensures no_line { IfErr result IsOfReport }
+    // That the genesis is missing takes no memory to tell.
+    ensures missing { chain.now ≡ None → result ≡ Err (EndStop.Lacking 1 InputFault.Missing) }
     ensures later { K.faults sink.old ≤ K.faults sink.new }
     ensures report_cause { IsErrOf result EndStop.Report
         → Rose (K.faults sink.old) (K.faults sink.new) }
@@ -84,6 +86,8 @@ pub fn finish<K: Sink, D: Keeper>(
         (LeftIn b (D.rows keeper.new) (D.is_honest keeper.new) (D.may_leave keeper.new))
         number s (last_line line.now) (K.written sink.old) (K.written sink.new)) }
     ensures long { IfErr result (λ stop. EndLongOnly stop line.now) }
+    ensures missing { line.now ≡ [] → chain.old ≡ None
+        → result ≡ Err (EndStop.Lacking 1 InputFault.Missing) }
     ensures later { K.faults sink.old ≤ K.faults sink.new }
     ensures cause { WhereWriteAtEnd result (Rose (K.faults sink.old) (K.faults sink.new)) }
     ensures quiet { UnlessWriteAtEnd result (K.faults sink.new ≡ K.faults sink.old) }

@@ -1,9 +1,15 @@
 //! The commands that generate their input: it is written, or a chain takes it and its summary is written. Neither takes
 //! anything from a source.
-ghost use Rattle.std.specs.Prelude.{◌≡◌, ◌≤◌, true};
+ghost use Rattle.std.specs.Prelude.{◌≡◌, ◌≤◌, ℕ, List, Result, Ok, Err, true, IfErr, IfOk};
 ghost use Rattle.base_io.specs.Outside.{Rose};
+ghost use Rattle.base_messages.specs.declared.faults.BlockFault.{BlockFault};
+ghost use Rattle.base_roles.specs.declared.refusal.Refusal.{Refusal};
 ghost use Rattle.run_generated.specs.Writing.{generated_text};
+ghost use Rattle.run_trial.specs.Summary.{Stopped};
 ghost use Rattle.run_trial.specs.Trial.{trial_of};
+ghost use Rattle.run_trial.specs.Trying.{IsTrialFault};
+ghost use Rattle.run_app.specs.Ending.{status_of};
+ghost use Rattle.run_app.specs.Machine.{not_applied};
 ghost use Rattle.run_app.specs.Modes.{Tries};
 ghost use Rattle.run_app.specs.Outcome.{UnlessWriteFault};
 ghost use Rattle.run_app.specs.Writes.{Writes, status_of_sink};
@@ -49,6 +55,29 @@ pub(crate) fn write_generated<K: Sink>(
     status_of_sink(write_input(form, alloc, sink, seed, count))
 }
 
+/// Writes the summary of a trial, as it was made; there is none, where a block may not follow.
+fn write_summary<K: Sink>(sink: &mut K, tried: Result<Vec<u8>, TrialFault>) -> Status
+    ensures ends { (due : Result (Result (List ℕ) Stopped) Refusal)
+        → IfOk tried (λ summary. due ≡ Ok (Ok summary.items)) → IfErr tried (IsTrialFault due)
+        → Tries due (K.written sink.old) (K.written sink.new) result }
+    // Which block it is takes no memory to tell.
+    ensures stopped { (line : ℕ) (fault : BlockFault) → tried ≡ Err (TrialFault.Block line fault)
+        → result ≡ status_of (not_applied line fault) }
+    ensures busy { result ≡ Status.Usage → ⊥ }
+    ensures read { result ≡ Status.ReadFault → ⊥ }
+    ensures keep { result ≡ Status.KeepFault → ⊥ }
+    ensures clean { result ≡ Status.Done → K.clean sink.new ≡ true }
+    ensures write_cause { result ≡ Status.WriteFault
+        → Rose (K.faults sink.old) (K.faults sink.new) }
+    ensures write_quiet { UnlessWriteFault result (K.faults sink.new ≡ K.faults sink.old) }
+{
+    match tried {
+        Ok(summary) => status_of_sink(write_text(sink, &summary)),
+        Err(TrialFault::Block(line, fault)) => status_of(not_applied(line, fault)),
+        Err(TrialFault::NoMemory) => Status::NoMemory,
+    }
+}
+
 /// The command `trial`: applies the generated input to a chain, and writes its summary.
 pub(crate) fn write_trial<K: Sink>(alloc: Global, sink: &mut K, seed: u64, count: u32) -> Status
     requires most { count ≤ 100_000 }
@@ -61,9 +90,5 @@ pub(crate) fn write_trial<K: Sink>(alloc: Global, sink: &mut K, seed: u64, count
         → Rose (K.faults sink.old) (K.faults sink.new) }
     ensures write_quiet { UnlessWriteFault result (K.faults sink.new ≡ K.faults sink.old) }
 {
-    match try_input(alloc, seed, count) {
-        Ok(summary) => status_of_sink(write_text(sink, &summary)),
-        Err(TrialFault::Block(line, fault)) => status_of(not_applied(line, fault)),
-        Err(TrialFault::NoMemory) => Status::NoMemory,
-    }
+    write_summary(sink, try_input(alloc, seed, count))
 }

@@ -6,7 +6,7 @@ ghost use Rattle.base_io.specs.Outside.{Rose};
 ghost use Rattle.line_json.specs.Genesis.{genesis_of};
 ghost use Rattle.line_json.specs.Block.{block_of};
 ghost use Rattle.run_app.specs.LineStops.{IsOfLine};
-ghost use Rattle.run_app.specs.Machine.{line_answer, not_read, not_applied, IsOfGenesis, IsNotStarted, genesis_answer, block_answer, Standing, StandsAt, AnswersTo};
+ghost use Rattle.run_app.specs.Machine.{line_answer, longest, not_read, not_applied, IsOfGenesis, IsNotStarted, genesis_answer, block_answer, Standing, StandsAt, AnswersTo};
 ghost use Rattle.chain_modules.specs.Kept.{StandsFor};
 ghost use Rattle.rule_modules.specs.Chain.{State};
 ghost use Rattle.run_app.specs.Kept.{Began, IsLater, Keeping, LeftIn};
@@ -249,6 +249,8 @@ fn answer<D: Keeper>(
         → IfErr result (λ stop. NotAnswered
         (LeftIn b (D.rows keeper.new) (D.is_honest keeper.new) (D.may_leave keeper.new))
         stop s (line_answer form number s line.now)) }
+    // That it is too long takes no memory to tell.
+    ensures long { longest < length line.now → result ≡ Err (LineStop.Long number) }
     ensures of_line { IfErr result (λ stop. IsOfLine stop line.now) }
     ensures honest { D.is_honest keeper.new → D.is_honest keeper.old }
     ensures later { D.faults keeper.old ≤ D.faults keeper.new }
@@ -305,6 +307,7 @@ pub fn take_line<K: Sink, D: Keeper>(
         number s (λ (more : List (List ℕ)). line.now ∷ more) (line.now ∷ [])
         (K.written sink.old) (K.written sink.new)) }
     ensures long { IfErr result (λ stop. LongOnly stop line.now) }
+    ensures too_long { longest < length line.now → result ≡ Err (LineStop.Long number) }
     ensures later { K.faults sink.old ≤ K.faults sink.new }
     ensures cause { IsErrOf result LineStop.Write
         → Rose (K.faults sink.old) (K.faults sink.new) }

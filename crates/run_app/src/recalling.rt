@@ -13,11 +13,11 @@ ghost use Rattle.store_resuming.specs.Restoring.{InOrder};
 use crate::resuming::{status_of_restore, write_answer};
 use crate::status::Status;
 use base_bech32::Form;
-use base_io::{KeepFault, Keeper, Row, Sink};
+use base_io::{Keeper, Row, Sink};
 use line_report::Query;
 use std::alloc::Global;
 use store_history::{PastFault, past};
-use store_resuming::chain_of_rows;
+use store_resuming::{chain_of_rows, load_rows};
 
 /// How a run ends where rows tell nothing of a height.
 fn status_of_past(fault: PastFault) -> Status
@@ -85,13 +85,9 @@ pub(crate) fn answer_past<K: Sink, D: Keeper>(
         → Rose (D.faults keeper.old) (D.faults keeper.new) }
     ensures keep_quiet { UnlessKeepFault result (D.faults keeper.new ≡ D.faults keeper.old) }
 {
-    let rows = match keeper.load() {
+    let rows = match load_rows(keeper) {
         Ok(rows) => rows,
-        Err(KeepFault::Failed) => return Status::KeepFault,
-        Err(KeepFault::NoMemory) => return Status::NoMemory,
+        Err(fault) => return status_of_restore(fault),
     };
-    if rows.is_empty() {
-        return Status::WrongStore(true);
-    }
     answer_at(form, alloc, sink, &rows, height, what)
 }

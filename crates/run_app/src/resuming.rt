@@ -1,6 +1,6 @@
 //! The commands that go on from what a keeper has.
 
-ghost use Rattle.std.specs.Prelude.{◌≡◌, [], true, false};
+ghost use Rattle.std.specs.Prelude.{◌≡◌, [], List, ℕ, Option, None, Ok, option_map, true, false, IfOk};
 ghost use Rattle.base_io.specs.Outside.{Rose};
 ghost use Rattle.rule_machine.specs.Report.{report_of};
 ghost use Rattle.chain_modules.specs.Kept.{StandsFor};
@@ -15,7 +15,7 @@ ghost use Rattle.run_app.specs.Writes.{Adds};
 use crate::answer::answer_text;
 use crate::generating::status_of_sink;
 use crate::running::drive;
-use crate::status::Status;
+use crate::status::{EndStop, Status};
 use base_bech32::Form;
 use base_io::{KeepFault, Keeper, Sink, Source};
 use chain_whole::Chain;
@@ -75,6 +75,28 @@ pub(crate) fn resume<S: Source, K: Sink, D: Keeper>(
     }
 }
 
+/// Writes the report's lines that answer a question, as they were made: there are none, where no line belongs to its address.
+fn write_told<K: Sink>(sink: &mut K, told: Result<Option<Vec<u8>>, EndStop>) -> Status
+    ensures ends { (due : Option (List ℕ))
+        → IfOk told (λ answer. option_map (λ text. text.items) answer ≡ due)
+        → Answers due (K.written sink.old) (K.written sink.new) result }
+    // That there are none takes no memory to tell.
+    ensures none { told ≡ Ok None → result ≡ Status.NotFound }
+    ensures busy { result ≡ Status.Usage → ⊥ }
+    ensures read { result ≡ Status.ReadFault → ⊥ }
+    ensures keep { result ≡ Status.KeepFault → ⊥ }
+    ensures clean { result ≡ Status.Done → K.clean sink.new ≡ true }
+    ensures write_cause { result ≡ Status.WriteFault
+        → Rose (K.faults sink.old) (K.faults sink.new) }
+    ensures write_quiet { UnlessWriteFault result (K.faults sink.new ≡ K.faults sink.old) }
+{
+    match told {
+        Ok(Some(text)) => status_of_sink(write_text(sink, &text)),
+        Ok(None) => Status::NotFound,
+        Err(_) => Status::NoMemory,
+    }
+}
+
 /// Writes the report's lines of a chain that answer the question.
 pub(crate) fn write_answer<K: Sink>(
     form: Form,
@@ -94,11 +116,7 @@ pub(crate) fn write_answer<K: Sink>(
         → Rose (K.faults sink.old) (K.faults sink.new) }
     ensures write_quiet { UnlessWriteFault result (K.faults sink.new ≡ K.faults sink.old) }
 {
-    match answer_text(form, alloc, chain, what) {
-        Ok(Some(text)) => status_of_sink(write_text(sink, &text)),
-        Ok(None) => Status::NotFound,
-        Err(_) => Status::NoMemory,
-    }
+    write_told(sink, answer_text(form, alloc, chain, what))
 }
 
 /// The command `query`: the report's lines that answer the question are written, and nothing is committed.

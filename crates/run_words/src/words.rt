@@ -1,5 +1,5 @@
 //! The words of a command line, read as a command.
-ghost use Rattle.std.specs.Prelude.{◌≡◌, ◌≤◌, length, map, string_bytes, slice_get, option_map, Some, None, false, codes, IfErr, IfOk};
+ghost use Rattle.std.specs.Prelude.{◌≡◌, ◌≤◌, length, map, string_bytes, slice_get, option_map, Some, None, Err, false, true, ◌<◌, codes, IfErr, IfOk, OnErr};
 ghost use Rattle.std.specs.List.{list_any};
 ghost use Rattle.clap.specs.Simple.{app_of};
 ghost use Rattle.clap.specs.Matches.{first_value, found_of};
@@ -290,6 +290,15 @@ fn command_at(
     }
 }
 
+/// The command that was found in words; where there is none, they are no command. It takes no memory.
+fn command_or_usage(found: Option<Command>) -> Result<Command, WordsFault>
+    ensures command { IfOk result (λ command. found ≡ Some command) }
+    ensures usage { IfErr result (λ fault. fault ≡ WordsFault.Usage) }
+    ensures none { OnErr result (found ≡ None) }
+{
+    found.ok_or(WordsFault::Usage)
+}
+
 /// What the words ask for: `replay`; `resume`; `query` with `supply`, `pool` or `validators`; `query` with `account`,
 /// `validator`, `delegations`, `rewards`, `unbondings`, `redelegations` or `signing` and an address; `tally`; `check`; `gen
 /// SEED COUNT`, where SEED is 1 to 20 digits below 2^64 and COUNT is from 1 to 100,000 without zeros in front; or `trial SEED
@@ -299,13 +308,17 @@ fn command_at(
 /// Behind `bech32` an address is a spelling of BIP 173, of `validator` with the prefix `cosmosvaloper`, of `signing` with
 /// `cosmosvalcons`, and of all others with `cosmos`; without that word forty hexadecimal digits with small letters.
 ///
-/// The errors are `Usage`, only where the words are none of these, and `NoMemory`.
+/// The errors are `Usage`, only where the words are none of these, and `NoMemory`. Words of which there are more than six,
+/// or of which one begins with a hyphen, are read without memory, so of them it is always `Usage`.
 #[tactic(auto, using(crate::proofs::RowLemmas::long_texts, crate::proofs::RowLemmas::optional_texts, crate::proofs::RowLemmas::texts_by_places))]
 pub fn read_words(alloc: Global, words: &[String]) -> Result<Command, WordsFault>
     ensures command { IfOk result (λ command. command_of (map string_bytes words.now)
         ≡ Some command) }
     ensures usage { IfErr result (λ fault. fault ≡ WordsFault.Usage
         → command_of (map string_bytes words.now) ≡ None) }
+    ensures long { 6 < length words.now → result ≡ Err WordsFault.Usage }
+    ensures hyphen { list_any (λ word. is_option (string_bytes word)) words.now ≡ true
+        → result ≡ Err WordsFault.Usage }
 {
     if words.len() > 6 || has_option(words) {
         return Err(WordsFault::Usage);
@@ -317,8 +330,6 @@ pub fn read_words(alloc: Global, words: &[String]) -> Result<Command, WordsFault
     let fourth = matches.get_str("fourth");
     let fifth = matches.get_str("fifth");
     let sixth = matches.get_str("sixth");
-    match command_at(first, second, third, fourth, fifth, sixth) {
-        Some(command) => Ok(command),
-        None => Err(WordsFault::Usage),
-    }
+    let command = command_or_usage(command_at(first, second, third, fourth, fifth, sixth))?;
+    Ok(command)
 }

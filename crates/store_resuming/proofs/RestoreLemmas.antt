@@ -38,7 +38,7 @@ use Rattle.store_resuming.specs.declared.fault.RestoreFault.{RestoreFault}
 use Rattle.store_resuming.specs.declared.fault.RestoreFault.TheVariants as fault
 use Rattle.store_records.proofs.OnceLaws.{once_anyway}
 use Rattle.store_resuming.specs.Restored.{AreLoaded, AreOfNone, AreStateRows, FormatsTellTheSame, HaveSameRows, IsStorable, old_rows_of, rows_of, state_rows}
-use Rattle.store_resuming.specs.Restoring.{AreChangesFrom, AreMigrated, AreOfNoneIn, HasLongWindow, InOrder, IsChainIn, IsChainOf, IsNoChain, IsRestored, IsUnrestored, UnlessFailed}
+use Rattle.store_resuming.specs.Restoring.{AreChangesFrom, AreMigrated, AreOfNoneIn, HasLongWindow, InOrder, IsChainIn, IsChainOf, IsNoChain, IsNotResumed, IsOfItems, IsOfNothing, IsRestored, IsUnrestored, UnlessFailed, not_read}
 use Rattle.store_items.proofs.Listed.{AreApart, apart_of, bytes_apart, apart_under, has_row, permuted_rows, rising_items_apart, rising_rows, rising_stored, rows_listed, rows_same, same_rows_permuted}
 
 -- no two items have one key
@@ -251,16 +251,32 @@ some_pairs (r ∷ rs) lt e = absurd cc
 
 -- ---- results
 
+-- rows that are not read as items
+pub unread : {T : Type 0} (f : Format) (rows : List Pair) (e : RowFault) → (IsErrOf {T = T} (Err e) row.BadRow → (items : List Item) → All HasRow items → map (row_in f) items ≢ rows) → IsNoChain (AreOfNoneIn f) rows (not_read e)
+unread f rows row.BadRow only = no_items f rows (only refl)
+unread f rows row.NoMemory only = tt
+
+-- items that are those of no state
+pub of_items : (items : List Item) (e : ChainFault) → IsResumeFault items e → IsOfItems e
+of_items items (faults.BadGenesis n) h = h
+of_items items faults.BadItems h = tt
+of_items items faults.NoMemory h = tt
+
+pub unmade : (keys : KeysAreOnce) (f : Format) (rows : List Pair) (items : List Item) → All HasRow items → map (row_in f) items ≡ rows → (e : ChainFault) (why : RestoreFault) → IsResumeFault items e → IsNotResumed e why → IsNoChain (AreOfNoneIn f) rows why
+unmade keys f rows items all is (faults.BadGenesis n) why h so = absurd h
+unmade keys f rows items all is faults.BadItems why h so = subst (IsNoChain (AreOfNoneIn f) rows) (sym so) (no_state keys f rows items all is h)
+unmade keys f rows items all is faults.NoMemory why h so = subst (IsNoChain (AreOfNoneIn f) rows) (sym so) tt
+
+-- rows of which no chain is made, whatever memory there is
+pub refused : (rows : List Pair) (e : RestoreFault) → e ≡ fault.Unsound → InOrder rows AreOfNone → IsNoChain AreOfNone rows e
+refused rows e is none = subst (IsNoChain AreOfNone rows) (sym is) none
+
+-- what is made of rows that are those of items
+pub never_bad : (e : RowFault) → e ≡ row.BadRow → e ≡ row.NoMemory → ⊥
+never_bad e bad none = absurd cc
+
 pub never_empty : (list : List Row) → 0 < length list → list ≡ [] → ⊥
 never_empty list some none = absurd (omega (arith, subst (λ (l : List Row). 0 < length l) none some))
-
--- a row of no item
-pub refused_row : {T : Type 0} (e : RowFault) (P : Type 0) → (IsErrOf {T = T} (Err e) row.BadRow → P) → e ≡ row.BadRow → P
-refused_row {T} e P h is = h (subst (λ (x : RowFault). IsErrOf {T = T} (Err x) row.BadRow) (sym is) refl)
-
--- items of no state
-pub refused_items : (e : ChainFault) (items : List Item) → IsResumeFault items e → e ≡ faults.BadItems → (p : State) → IsStateOf items p → ⊥
-refused_items e items h is = subst (IsResumeFault items) is h
 
 abbrev failed : {X : Type 0} → RestoreFault → Result X RestoreFault
 failed e = Err e
@@ -277,6 +293,22 @@ quiet_fault fault.Failed P p = tt
 quiet_fault fault.NoMemory P p = p
 quiet_fault fault.Empty P p = p
 quiet_fault fault.Unsound P p = p
+
+-- no rows
+pub empty_fault : (rows rows' : Option (List Pair)) (honest' : Type 0) (e : RestoreFault) → e ≡ fault.Empty → AreLoaded rows rows' honest' (λ now. now ≡ []) → IsUnrestored rows rows' honest' e
+empty_fault rows rows' honest' e is h = subst (IsUnrestored rows rows' honest') (sym is) h
+
+pub empty_of_nothing : {X : Type 0} (e : RestoreFault) → e ≡ fault.Empty → IsOfNothing (failed {X = X} e)
+empty_of_nothing {X} e is = subst (λ (x : RestoreFault). IsOfNothing (failed {X = X} x)) (sym is) tt
+
+pub empty_unjudged : (e : RestoreFault) → e ≡ fault.Empty → e ≢ fault.Unsound
+empty_unjudged e is bad = absurd cc
+
+pub empty_cause : {X : Type 0} (e : RestoreFault) (P : Type 0) → e ≡ fault.Empty → IsErrOf (failed {X = X} e) fault.Failed → P
+empty_cause fault.Failed P is bad = absurd cc
+empty_cause fault.NoMemory P is bad = absurd cc
+empty_cause fault.Empty P is bad = absurd cc
+empty_cause fault.Unsound P is bad = absurd cc
 
 -- ---- changes
 

@@ -28,7 +28,7 @@ use Rattle.chain_whole.specs.Chained.{Chained, chained}
 use Rattle.chain_whole.proofs.ChainLemmas.{settled_now}
 use Rattle.chain_whole.specs.declared.fault.ChainFault.{ChainFault}
 use Rattle.chain_whole.specs.declared.fault.ChainFault.TheVariants as fault
-use Rattle.store_resuming.specs.Resumed.{IsJudged, IsResumeFault, IsStateOf, resumed}
+use Rattle.store_resuming.specs.Resumed.{IsJudged, IsResumeFault, IsStateOf, IsVerdict, resumed}
 
 one_some : {A : Type 0} (x y : A) → ◌≡◌ {A = Option A} (Some x) (Some y) → x ≡ y
 one_some x y e = cc
@@ -116,6 +116,26 @@ module _ (items : List Item) (p : State) (s : IsStateOf items p) where
   pub pass : (r : PlainSeen) → AreInMemory r → records_in items ≡ Some r → is_sound r ≡ false → ⊥
   pass r memory e fails =
       true_or_false (is_sound r) (subst (λ (x : PlainSeen). is_sound x ≡ true) (same r e) (sound_records_pass p s.sound (subst AreInMemory (sym (same r e)) memory)).2) fails
+
+-- ---- what is judged
+
+-- records that pass
+pub passes_so : {E : Type 0} (r : PlainSeen) (s : Result Bool E) → IfOk s (λ b. b ≡ is_sound r) → s ≡ Ok true → is_sound r ≡ true
+passes_so {E} r s h e = sym (subst (λ (x : Result Bool E). IfOk x (λ b. b ≡ is_sound r)) e h)
+
+pub if_ok_anyway : {T E : Type 0} (answer : Result T E) (P : Type 0) → P → IfOk answer (λ x. P)
+if_ok_anyway (Ok x) P p = p
+if_ok_anyway (Err why) P p = tt
+
+-- and those that do not
+pub judged_so : {E : Type 0} (r : PlainSeen) (s : Result Bool E) (why : ChainFault) → IfOk s (λ b. b ≡ is_sound r) → IsVerdict s why → IsJudged r why
+judged_so r s (fault.BadGenesis n) h v = v
+judged_so {E} r s fault.BadItems h v = sym (subst (λ (x : Result Bool E). IfOk x (λ b. b ≡ is_sound r)) v h)
+judged_so r s fault.NoMemory h v = tt
+
+-- items of no records
+pub refused_so : (items : List Item) (why : ChainFault) → why ≡ fault.BadItems → records_in items ≡ None → IsResumeFault items why
+refused_so items why is none = subst (IsResumeFault items) (sym is) (λ p s. some_records items p s none)
 
 -- ---- what is answered
 

@@ -1,6 +1,8 @@
 -- What a chain restored from rows stands for, and when none is.
 use Rattle.std.specs.Prelude.{◌≡◌, ◌≢◌, ◌⊎◌, ◌<◌, List, [], length, Option, Result, Ok, Err}
 use Rattle.chain_whole.specs.Chained.{Chained}
+use Rattle.chain_whole.specs.declared.fault.ChainFault.{ChainFault}
+use Rattle.chain_whole.specs.declared.fault.ChainFault.TheVariants as unmade
 use Rattle.base_io.specs.declared.keeper.Change.{Change}
 use Rattle.base_io.specs.Rows.{Pair}
 use Rattle.base_roles.specs.declared.items.Item.{Item}
@@ -12,6 +14,8 @@ use Rattle.rule_modules.specs.Chain.{State}
 use Rattle.store_items.specs.Migrating.{AreListed, IsMigration}
 use Rattle.store_resuming.specs.declared.fault.RestoreFault.{RestoreFault}
 use Rattle.store_resuming.specs.declared.fault.RestoreFault.TheVariants as fault
+use Rattle.store_rows.specs.declared.fault.RowFault.{RowFault}
+use Rattle.store_rows.specs.declared.fault.RowFault.TheVariants as row
 use Rattle.store_rows.specs.declared.format.Format.{Format}
 use Rattle.store_rows.specs.declared.format.Format.TheVariants.{First, Second}
 use Rattle.store_resuming.specs.Restored.{AreLoaded, AreOfNone, AreStateRows, HaveSameRows, IsStorable, old_rows_of, rows_of, state_rows}
@@ -66,6 +70,23 @@ AreChangesFrom First rows list =
     ((p : State) → IsStorable p → rows ≡ old_rows_of p → IsMigration (items_of p) list)
     × ((items : List Item) → AreListed First items rows → IsOrdinary list)
 AreChangesFrom Second rows list = list ≡ []
+
+-- why no chain comes of rows that are not read
+abbrev pub not_read : RowFault → RestoreFault
+not_read row.BadRow = fault.Unsound
+not_read row.NoMemory = fault.NoMemory
+
+-- a fault of items, which is none of a genesis
+abbrev pub IsOfItems : ChainFault → Type 0
+IsOfItems (unmade.BadGenesis number) = ⊥
+IsOfItems unmade.BadItems = Unit {0}
+IsOfItems unmade.NoMemory = Unit {0}
+
+-- why no chain comes of the items of rows
+abbrev pub IsNotResumed : ChainFault → RestoreFault → Type 0
+IsNotResumed (unmade.BadGenesis number) why = ⊥
+IsNotResumed unmade.BadItems why = why ≡ fault.Unsound
+IsNotResumed unmade.NoMemory why = why ≡ fault.NoMemory
 
 -- Why no chain comes of rows: they are those of no sound state (`OfNone`), or memory is wanting.
 abbrev pub IsNoChain : (List Pair → Type 0) → List Pair → RestoreFault → Type 0

@@ -1,5 +1,5 @@
 -- The states that have given items, and what a chain out of items is.
-use Rattle.std.specs.Prelude.{◌≡◌, false, List, []}
+use Rattle.std.specs.Prelude.{◌≡◌, Bool, false, List, [], Result, Ok, Err}
 use Rattle.std.specs.List.Sorted.{IsPermutation}
 use Rattle.base_roles.specs.declared.items.Item.{Item}
 use Rattle.rule_modules.specs.Chain.{State}
@@ -30,6 +30,12 @@ abbrev pub IsJudged : PlainSeen → ChainFault → Type 0
 IsJudged r (chain.BadGenesis number) = ⊥
 IsJudged r chain.BadItems = is_sound r ≡ false
 IsJudged r chain.NoMemory = Unit {0}
+
+-- why records that were judged are not taken: they don't pass the tests, or memory was wanting for these
+abbrev pub IsVerdict : {E : Type 0} → Result Bool E → ChainFault → Type 0
+IsVerdict sound (chain.BadGenesis number) = ⊥
+IsVerdict sound chain.BadItems = sound ≡ Ok false
+IsVerdict {E} sound chain.NoMemory = (why : E) × (sound ≡ Err why)
 
 -- the chain of records, settled
 abbrev pub resumed : PlainSeen → Chained

@@ -1,6 +1,6 @@
 //! Rows that are loaded, and the chain of them.
 
-ghost use Rattle.std.specs.Prelude.{◌≡◌, ◌≢◌, ◌≤◌, [], All, Contains, List, map, true, false, IfErr, IfOk, IfSome, IsErrOf, IsSome, OnOk};
+ghost use Rattle.std.specs.Prelude.{◌≡◌, ◌≢◌, ◌≤◌, ◌<◌, [], All, Contains, List, Some, length, map, true, false, IfErr, IfOk, IfSome, IsErrOf, IsSome, OnErr, OnOk};
 ghost use Rattle.base_io.specs.declared.keeper.Change.{Change};
 ghost use Rattle.base_io.specs.Outside.{Rose};
 ghost use Rattle.base_io.specs.Rows.{Makes, Pair};
@@ -9,9 +9,10 @@ ghost use Rattle.base_roles.specs.declared.items.Item.{Item};
 ghost use Rattle.store_rows.specs.declared.format.Format.{Format};
 ghost use Rattle.store_rows.specs.Rows.{row_in};
 ghost use Rattle.store_rows.specs.Spelled.{HasRow};
+ghost use Rattle.store_rows.specs.Told.{format_told};
 ghost use Rattle.store_items.specs.Migrating.{AreListed};
 ghost use Rattle.store_resuming.specs.Restored.{AreLoaded, AreOfNone};
-ghost use Rattle.store_resuming.specs.Restoring.{AreChangesFrom, AreOfNoneIn, HasLongWindow, InOrder, IsChainIn, IsChainOf, IsNoChain, IsOfNothing, IsRestored, IsUnrestored, UnlessFailed};
+ghost use Rattle.store_resuming.specs.Restoring.{AreChangesFrom, AreOfNoneIn, HasLongWindow, InOrder, IsChainIn, IsChainOf, IsNoChain, IsNotResumed, IsOfItems, IsOfNothing, IsRestored, IsUnrestored, UnlessFailed, not_read};
 
 use crate::fault::RestoreFault;
 use crate::from_items;
@@ -21,11 +22,24 @@ use std::alloc::Global;
 use store_items::{items_can_be_kept, items_of, migrate};
 use store_rows::{Format, RowFault, format_of, window_of};
 
+/// Nothing, where there are rows. It takes no memory: where there are none, the error is `Empty`.
+fn are_some(rows: &[Row]) -> Result<(), RestoreFault>
+    ensures some { OnOk result (0 < length rows.now) }
+    ensures fault { IfErr result (λ fault. fault ≡ RestoreFault.Empty) }
+    ensures none { OnErr result (length rows.now ≡ 0) }
+{
+    if rows.is_empty() {
+        Err(RestoreFault::Empty)
+    } else {
+        Ok(())
+    }
+}
+
 /// The rows of a keeper, of which there are some. The rows are left, and what a stop may leave.
 ///
 /// # Errors
 /// `Failed`, only where the count of faults rose; `Empty`, exactly where there are no rows; and `NoMemory`.
-fn load_rows<D: Keeper>(keeper: &mut D) -> Result<Vec<Row>, RestoreFault>
+pub fn load_rows<D: Keeper>(keeper: &mut D) -> Result<Vec<Row>, RestoreFault>
     ensures rows { IfOk result (λ rows.
         IfSome (D.rows keeper.new) (λ now. map pair_of rows.items ≡ now)) }
     ensures some { IfOk result (λ rows. map pair_of rows.items ≢ []) }
@@ -34,6 +48,8 @@ fn load_rows<D: Keeper>(keeper: &mut D) -> Result<Vec<Row>, RestoreFault>
     ensures ascending { IfSome (D.rows keeper.new) Rises }
     ensures fault { IfErr result (IsUnrestored
         (D.rows keeper.old) (D.rows keeper.new) (D.is_honest keeper.new)) }
+    // They are not judged.
+    ensures unjudged { IfErr result (λ fault. fault ≢ RestoreFault.Unsound) }
     // One that keeps nothing has no rows.
     ensures unkept { D.keeps keeper.old ≡ false → IsOfNothing result }
     ensures same { Makes (λ rows. rows) (D.rows keeper.old) (D.rows keeper.new) }
@@ -53,10 +69,32 @@ fn load_rows<D: Keeper>(keeper: &mut D) -> Result<Vec<Row>, RestoreFault>
         Err(KeepFault::Failed) => return Err(RestoreFault::Failed),
         Err(KeepFault::NoMemory) => return Err(RestoreFault::NoMemory),
     };
-    if rows.is_empty() {
-        return Err(RestoreFault::Empty);
+    match are_some(&rows) {
+        Ok(()) => Ok(rows),
+        Err(fault) => Err(fault),
     }
-    Ok(rows)
+}
+
+/// Why no chain comes of rows that are not read as items.
+fn not_read(fault: RowFault) -> RestoreFault
+    ensures { result ≡ not_read fault }
+{
+    match fault {
+        RowFault::BadRow => RestoreFault::Unsound,
+        RowFault::NoMemory => RestoreFault::NoMemory,
+    }
+}
+
+/// Why no chain comes of the items of rows.
+fn not_resumed(fault: ChainFault) -> RestoreFault
+    requires { IsOfItems fault }
+    ensures { IsNotResumed fault result }
+{
+    match fault {
+        ChainFault::BadGenesis(_) => unreachable!(),
+        ChainFault::BadItems => RestoreFault::Unsound,
+        ChainFault::NoMemory => RestoreFault::NoMemory,
+    }
 }
 
 /// The chain of rows in a format. The errors are `Unsound`, exactly where they are those of no
@@ -70,14 +108,11 @@ fn chain_of(alloc: Global, format: Format, rows: &[Row]) -> Result<Chain, Restor
     items_can_be_kept();
     let items = match items_of(alloc, format, rows) {
         Ok(items) => items,
-        Err(RowFault::BadRow) => return Err(RestoreFault::Unsound),
-        Err(RowFault::NoMemory) => return Err(RestoreFault::NoMemory),
+        Err(fault) => return Err(not_read(fault)),
     };
     match from_items(alloc, items) {
         Ok(chain) => Ok(chain),
-        Err(ChainFault::BadItems) => Err(RestoreFault::Unsound),
-        Err(ChainFault::NoMemory) => Err(RestoreFault::NoMemory),
-        Err(ChainFault::BadGenesis(_)) => unreachable!(),
+        Err(fault) => Err(not_resumed(fault)),
     }
 }
 
@@ -109,6 +144,24 @@ fn have_long_window(rows: &[Row]) -> bool
     false
 }
 
+/// The format that rows tell, where none of them tells a window that no sound state has. It takes no memory: the error is
+/// `Unsound`, only where the rows are those of no sound state in either format.
+fn format_of_state(rows: &[Row]) -> Result<Format, RestoreFault>
+    ensures format { IfOk result
+        (λ format. format_told (map pair_of rows.now) ≡ Some format) }
+    ensures fault { IfErr result (λ fault. fault ≡ RestoreFault.Unsound) }
+    ensures none { OnErr result (InOrder (map pair_of rows.now) AreOfNone) }
+{
+    items_can_be_kept();
+    if have_long_window(rows) {
+        return Err(RestoreFault::Unsound);
+    }
+    match format_of(rows) {
+        Some(format) => Ok(format),
+        None => Err(RestoreFault::Unsound),
+    }
+}
+
 /// The chain of rows in the format that they tell, and this format. What a row tells of a window
 /// takes no memory where no sound state has it. The errors are `Unsound`, exactly where they are
 /// those of no sound state in either format, and `NoMemory`.
@@ -118,13 +171,9 @@ fn chain_told(alloc: Global, rows: &[Row]) -> Result<(Chain, Format), RestoreFau
         (λ r. (items : List Item) × AreListed r.1 items (map pair_of rows.now)) }
     ensures fault { IfErr result (IsNoChain AreOfNone (map pair_of rows.now)) }
 {
-    items_can_be_kept();
-    if have_long_window(rows) {
-        return Err(RestoreFault::Unsound);
-    }
-    let format = match format_of(rows) {
-        Some(format) => format,
-        None => return Err(RestoreFault::Unsound),
+    let format = match format_of_state(rows) {
+        Ok(format) => format,
+        Err(fault) => return Err(fault),
     };
     match chain_of(alloc, format, rows) {
         Ok(chain) => Ok((chain, format)),
@@ -186,9 +235,13 @@ pub struct Restored {
     pub changes: Vec<Change>,
 }
 
-/// The changes that bring rows of a format to the one that is written.
+/// The changes that bring rows of a format to the one that is written. Of rows that are those of items the only error is
+/// `NoMemory`.
 fn changes_from(alloc: Global, format: Format, rows: &[Row]) -> Result<Vec<Change>, RowFault>
-    ensures { IfOk result (λ list. AreChangesFrom format (map pair_of rows.now) list.items) }
+    ensures changes { IfOk result
+        (λ list. AreChangesFrom format (map pair_of rows.now) list.items) }
+    ensures fault { (items : List Item) → AreListed format items (map pair_of rows.now)
+        → IfErr result (λ fault. fault ≡ RowFault.NoMemory) }
 {
     match format {
         Format::First => migrate(alloc, rows),
@@ -234,6 +287,7 @@ pub fn restore_with_changes<D: Keeper>(
     };
     match changes_from(alloc, format, &rows) {
         Ok(changes) => Ok(Restored { chain, changes }),
-        Err(_) => Err(RestoreFault::NoMemory),
+        Err(RowFault::NoMemory) => Err(RestoreFault::NoMemory),
+        Err(RowFault::BadRow) => unreachable!(),
     }
 }

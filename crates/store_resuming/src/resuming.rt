@@ -1,6 +1,6 @@
 //! The chain of items.
 
-ghost use Rattle.std.specs.Prelude.{◌≡◌, [], true, false, Some, IfOk, IfErr};
+ghost use Rattle.std.specs.Prelude.{◌≡◌, [], true, false, None, Ok, Some, IfOk, IfErr, OnErr, OnOk};
 ghost use Rattle.rule_modules.specs.Chain.{State};
 ghost use Rattle.chain_modules.specs.Kept.{StandsFor};
 ghost use Rattle.store_records.specs.Gathering.{records_in};
@@ -9,12 +9,12 @@ ghost use Rattle.store_soundness.specs.Sound.{is_sound};
 ghost use Rattle.law_records.specs.Coins.{AreCoins};
 ghost use Rattle.law_records.specs.PassLaws.{AreInMemory};
 ghost use Rattle.store_loading.specs.Loaded.{kept_in};
-ghost use Rattle.store_resuming.specs.Resumed.{IsJudged, IsResumeFault, IsStateOf, resumed};
+ghost use Rattle.store_resuming.specs.Resumed.{IsJudged, IsResumeFault, IsStateOf, IsVerdict, resumed};
 
 use crate::telling::{tell_money, tell_numbers};
 use base_roles::Item;
 use chain_whole::{Chain, ChainFault};
-use std::alloc::Global;
+use std::alloc::{AllocError, Global};
 use std::marker::Brand;
 use std::sync::ledger::Blank;
 use store_loading::modules_of;
@@ -37,6 +37,19 @@ fn loaded(alloc: Global, records: PlainRecords) -> Result<Chain, ChainFault>
     Ok(Chain::over(modules))
 }
 
+/// What is answered of records that were judged: nothing, where they pass the tests; `BadItems`, where they do not; and
+/// `NoMemory`, where that is not known for want of memory.
+fn verdict(sound: Result<bool, AllocError>) -> Result<(), ChainFault>
+    ensures ok { OnOk result (sound ≡ Ok true) }
+    ensures fault { IfErr result (IsVerdict sound) }
+{
+    match sound {
+        Ok(true) => Ok(()),
+        Ok(false) => Err(ChainFault::BadItems),
+        Err(_) => Err(ChainFault::NoMemory),
+    }
+}
+
 /// The chain of records, where they pass the tests.
 fn judged(alloc: Global, records: PlainRecords) -> Result<Chain, ChainFault>
     requires ascending { AreAscending (seen records).lists }
@@ -48,17 +61,22 @@ fn judged(alloc: Global, records: PlainRecords) -> Result<Chain, ChainFault>
 {
     tell_money(&records);
     tell_numbers(&records);
-    match is_sound(alloc, &records) {
-        Ok(true) => loaded(alloc, records),
-        Ok(false) => {
+    match verdict(is_sound(alloc, &records)) {
+        Ok(()) => loaded(alloc, records),
+        Err(fault) => {
             let_go(records);
-            Err(ChainFault::BadItems)
-        }
-        Err(_) => {
-            let_go(records);
-            Err(ChainFault::NoMemory)
+            Err(fault)
         }
     }
+}
+
+/// The records of items, where they are those of some; the error is `BadItems`.
+fn some_records(found: Option<PlainRecords>) -> Result<PlainRecords, ChainFault>
+    ensures records { IfOk result (λ records. found ≡ Some records) }
+    ensures fault { IfErr result (λ fault. fault ≡ ChainFault.BadItems) }
+    ensures none { OnErr result (found ≡ None) }
+{
+    found.ok_or(ChainFault::BadItems)
 }
 
 /// The chain of which these are the items, in any order, settled: it stands for each sound state that has them.
@@ -74,8 +92,9 @@ pub fn from_items(alloc: Global, items: Vec<Item>) -> Result<Chain, ChainFault>
     ensures unspent { IfOk result (λ chain. chain.spent ≡ false) }
     ensures fault { IfErr result (IsResumeFault items.items) }
 {
-    match records_of(alloc, items)? {
-        Some(records) => judged(alloc, records),
-        None => Err(ChainFault::BadItems),
+    let found = records_of(alloc, items)?;
+    match some_records(found) {
+        Ok(records) => judged(alloc, records),
+        Err(fault) => Err(fault),
     }
 }

@@ -21,7 +21,7 @@ module _ {A : Type 0} (form : List ℕ → Result (A × List ℕ) RowFault) wher
       let one : with_front front (each_at form (count - i) bytes) ≡ with_front (front ++ x ∷ []) (each_at form (count - (i + 1)) after) = rw (k, h) (regroup front x (each_at form (count - (i + 1)) after)) in
       sym one ∙ so_far
 
-  pub fails_on : (e : RowFault) (front : List A) (count i : ℕ) (bytes : List ℕ) (total : Result (List A × List ℕ) RowFault) → i < count → Fails e (form bytes)
+  pub fails_on : (e : RowFault) (front : List A) (count i : ℕ) (bytes : List ℕ) (total : Result (List A × List ℕ) RowFault) → i < count → form bytes ≡ Err e
       → with_front front (each_at form (count - i) bytes) ≡ total → Fails e total
   unfolding each_at
   fails_on NoMemory front count i bytes total lt h so_far = tt

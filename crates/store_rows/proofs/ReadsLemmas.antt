@@ -2,6 +2,8 @@
 use Rattle.std.proofs.Common.{◌≡◌, ◌∙◌, ℕ, ◌<◌, List, ◌++◌, get_or, Result, Ok, Err, refl, sym, ap, subst, append_assoc}
 use Rattle.base_coins.specs.Steps.{◌>>=◌}
 use Rattle.store_rows.specs.declared.fault.RowFault.{RowFault}
+use Rattle.store_rows.specs.declared.fault.RowFault.TheVariants.{BadRow, NoMemory}
+use Rattle.store_rows.specs.Reading.{Gives, IsRead}
 
 abbrev pub IsBytes : List ℕ → Type 0
 IsBytes bytes = (i : ℕ) → get_or bytes i 0 < 256
@@ -20,6 +22,12 @@ ok_is x y e = cc
 -- a step after one that gave a value
 pub bind_is : {A B : Type 0} (r : Result A RowFault) (x : A) (f : A → Result B RowFault) (y : Result B RowFault) → r ≡ Ok x → f x ≡ y → (r >>= f) ≡ y
 bind_is {A} r x f y e g = ap (λ (s : Result A RowFault). s >>= f) e ∙ g
+
+-- what takes no memory answers what reading gives
+pub read_gives : {X Y : Type 0} (seen : X → Y) (r : Result X RowFault) (reading : Result Y RowFault) → IsRead seen r reading → Gives seen r reading
+read_gives seen (Ok x) reading h = h
+read_gives seen (Err BadRow) reading h = h
+read_gives seen (Err NoMemory) reading h = tt
 
 -- what is read of bytes was spelled by them, and what is spelled is read
 pub record Reads {A : Type 0} (form : List ℕ → Result (A × List ℕ) RowFault) (spelled : A → List ℕ) (Fits : A → Type 0) : Type 0 where

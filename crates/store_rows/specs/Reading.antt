@@ -40,6 +40,11 @@ abbrev pub Gives : {X Y : Type 0} → (X → Y) → Result X RowFault → Result
 Gives seen (Ok x) reading = reading ≡ Ok (seen x)
 Gives seen (Err fault) reading = Fails fault reading
 
+-- What takes no memory answers just what reading gives, each value seen by `seen`.
+abbrev pub IsRead : {X Y : Type 0} → (X → Y) → Result X RowFault → Result Y RowFault → Type 0
+IsRead seen (Ok x) reading = reading ≡ Ok (seen x)
+IsRead seen (Err fault) reading = reading ≡ Err fault
+
 -- the value, which has to be there
 abbrev pub or_bad : {A : Type 0} → Option A → Result A RowFault
 or_bad None = Err BadRow
@@ -139,6 +144,10 @@ comes_before coin (next ∷ others) = nat_lt 0 coin.1 && is_lt (denom_cmp coin.0
 abbrev pub is_in_order : Money → Bool
 is_in_order [] = true
 is_in_order (coin ∷ coins) = comes_before coin coins && is_in_order coins
+
+-- these coins, where they stand so in a list
+abbrev pub listed : Money → Result Money RowFault
+listed coins = if is_in_order coins then Ok coins else Err BadRow
 
 unfoldable pub coins_at : List ℕ → Result (Money × List ℕ) RowFault
 coins_at bytes = do

@@ -2,7 +2,7 @@
 
 ghost use Rattle.std.specs.Prelude.{◌≡◌, map};
 ghost use Rattle.store_rows.specs.Fields.{coin_seen};
-ghost use Rattle.store_rows.specs.Reading.{Gives, coin_at, coins_at, comes_before, each_at, is_in_order};
+ghost use Rattle.store_rows.specs.Reading.{Gives, IsRead, coin_at, coins_at, comes_before, each_at, is_in_order, listed};
 
 use crate::fault::RowFault;
 use crate::fields::{decimal_at, denom_at, u32_at};
@@ -12,7 +12,7 @@ use std::alloc::Global;
 
 #[tactic(auto, unfolding(crate::specs::Reading::coin_at))]
 fn coin_at(bytes: &mut Unread<'_>) -> Result<DecCoin, RowFault>
-    ensures { Gives (λ x. (coin_seen x, bytes.new.left.now)) result (coin_at bytes.old.left.now) }
+    ensures { IsRead (λ x. (coin_seen x, bytes.new.left.now)) result (coin_at bytes.old.left.now) }
 {
     let denom = denom_at(bytes)?;
     let amount = decimal_at(bytes)?;
@@ -56,13 +56,11 @@ fn are_in_order(coins: &[DecCoin]) -> bool
     true
 }
 
-/// A list of decimal coins, as they stand in one.
-#[tactic(auto, unfolding(crate::specs::Reading::coins_at), using(crate::proofs::CoinLemmas::in_order_is_sorted, crate::proofs::CoinLemmas::in_order_is_once))]
-pub(crate) fn coins_at(alloc: Global, bytes: &mut Unread<'_>) -> Result<DecCoins, RowFault>
-    ensures { Gives (λ x. (x, bytes.new.left.now)) result (coins_at bytes.old.left.now) }
+/// These coins as a list, where they stand so in one. It takes no memory.
+#[tactic(auto, using(crate::proofs::CoinLemmas::in_order_is_sorted, crate::proofs::CoinLemmas::in_order_is_once))]
+fn listed(coins: Vec<DecCoin>) -> Result<DecCoins, RowFault>
+    ensures { IsRead (λ list. list) result (listed (map coin_seen coins.items)) }
 {
-    let count = u32_at(bytes)?;
-    let coins = each_coin(alloc, count, bytes)?;
     if !are_in_order(&coins) {
         return Err(RowFault::BadRow);
     }
@@ -70,4 +68,14 @@ pub(crate) fn coins_at(alloc: Global, bytes: &mut Unread<'_>) -> Result<DecCoins
         Ok(coins) => Ok(coins),
         Err(_) => Err(RowFault::BadRow),
     }
+}
+
+/// A list of decimal coins, as they stand in one.
+#[tactic(auto, unfolding(crate::specs::Reading::coins_at))]
+pub(crate) fn coins_at(alloc: Global, bytes: &mut Unread<'_>) -> Result<DecCoins, RowFault>
+    ensures { Gives (λ x. (x, bytes.new.left.now)) result (coins_at bytes.old.left.now) }
+{
+    let count = u32_at(bytes)?;
+    let coins = each_coin(alloc, count, bytes)?;
+    listed(coins)
 }

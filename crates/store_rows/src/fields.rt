@@ -2,7 +2,7 @@
 
 ghost use Rattle.std.specs.Prelude.{◌≡◌};
 ghost use Rattle.std.specs.Int.{w32, w64, w128};
-ghost use Rattle.store_rows.specs.Reading.{Gives, account_at, byte_at, bytes_at, decimal_at, denom_at, ends, format_at, moment_at, number_at, status_at, truth_at, user_at};
+ghost use Rattle.store_rows.specs.Reading.{IsRead, account_at, byte_at, bytes_at, decimal_at, denom_at, ends, format_at, moment_at, number_at, status_at, truth_at, user_at};
 
 use crate::fault::RowFault;
 use crate::format::Format;
@@ -22,7 +22,7 @@ pub(crate) fn ends(bytes: &Unread<'_>) -> Result<(), RowFault>
 }
 
 pub(crate) fn byte_at(bytes: &mut Unread<'_>) -> Result<u8, RowFault>
-    ensures { Gives (λ x. (x, bytes.new.left.now)) result (byte_at bytes.old.left.now) }
+    ensures { IsRead (λ x. (x, bytes.new.left.now)) result (byte_at bytes.old.left.now) }
 {
     let left = bytes.left;
     match left {
@@ -35,7 +35,7 @@ pub(crate) fn byte_at(bytes: &mut Unread<'_>) -> Result<u8, RowFault>
 }
 
 pub(crate) fn bytes_at<'a>(count: usize, bytes: &mut Unread<'a>) -> Result<&'a [u8], RowFault>
-    ensures { Gives (λ x. (x.now, bytes.new.left.now)) result
+    ensures { IsRead (λ x. (x.now, bytes.new.left.now)) result
         (bytes_at count bytes.old.left.now) }
 {
     let left = bytes.left;
@@ -48,7 +48,7 @@ pub(crate) fn bytes_at<'a>(count: usize, bytes: &mut Unread<'a>) -> Result<&'a [
 }
 
 pub(crate) fn u32_at(bytes: &mut Unread<'_>) -> Result<u32, RowFault>
-    ensures { Gives (λ x. (x, bytes.new.left.now)) result (number_at w32 bytes.old.left.now) }
+    ensures { IsRead (λ x. (x, bytes.new.left.now)) result (number_at w32 bytes.old.left.now) }
 {
     let left = bytes.left;
     match left.split_first_chunk::<4>() {
@@ -61,7 +61,7 @@ pub(crate) fn u32_at(bytes: &mut Unread<'_>) -> Result<u32, RowFault>
 }
 
 pub(crate) fn u64_at(bytes: &mut Unread<'_>) -> Result<u64, RowFault>
-    ensures { Gives (λ x. (x, bytes.new.left.now)) result (number_at w64 bytes.old.left.now) }
+    ensures { IsRead (λ x. (x, bytes.new.left.now)) result (number_at w64 bytes.old.left.now) }
 {
     let left = bytes.left;
     match left.split_first_chunk::<8>() {
@@ -74,7 +74,7 @@ pub(crate) fn u64_at(bytes: &mut Unread<'_>) -> Result<u64, RowFault>
 }
 
 pub(crate) fn u128_at(bytes: &mut Unread<'_>) -> Result<u128, RowFault>
-    ensures { Gives (λ x. (x, bytes.new.left.now)) result (number_at w128 bytes.old.left.now) }
+    ensures { IsRead (λ x. (x, bytes.new.left.now)) result (number_at w128 bytes.old.left.now) }
 {
     let left = bytes.left;
     match left.split_first_chunk::<16>() {
@@ -88,7 +88,7 @@ pub(crate) fn u128_at(bytes: &mut Unread<'_>) -> Result<u128, RowFault>
 
 #[tactic(auto, unfolding(crate::specs::Reading::decimal_at))]
 pub(crate) fn decimal_at(bytes: &mut Unread<'_>) -> Result<Dec, RowFault>
-    ensures { Gives (λ x. (x, bytes.new.left.now)) result (decimal_at bytes.old.left.now) }
+    ensures { IsRead (λ x. (x, bytes.new.left.now)) result (decimal_at bytes.old.left.now) }
 {
     let raw = u128_at(bytes)?;
     match Dec::from_raw(raw) {
@@ -99,7 +99,7 @@ pub(crate) fn decimal_at(bytes: &mut Unread<'_>) -> Result<Dec, RowFault>
 
 #[tactic(auto, unfolding(crate::specs::Reading::moment_at))]
 pub(crate) fn moment_at(bytes: &mut Unread<'_>) -> Result<Moment, RowFault>
-    ensures { Gives (λ x. (x, bytes.new.left.now)) result (moment_at bytes.old.left.now) }
+    ensures { IsRead (λ x. (x, bytes.new.left.now)) result (moment_at bytes.old.left.now) }
 {
     let nanos = u128_at(bytes)?;
     match Moment::of(nanos) {
@@ -109,7 +109,7 @@ pub(crate) fn moment_at(bytes: &mut Unread<'_>) -> Result<Moment, RowFault>
 }
 
 fn address_at(bytes: &mut Unread<'_>) -> Result<[u8; 20], RowFault>
-    ensures { Gives (λ x. (x, bytes.new.left.now)) result (bytes_at 20 bytes.old.left.now) }
+    ensures { IsRead (λ x. (x, bytes.new.left.now)) result (bytes_at 20 bytes.old.left.now) }
 {
     let left = bytes.left;
     match left.split_first_chunk::<20>() {
@@ -122,7 +122,7 @@ fn address_at(bytes: &mut Unread<'_>) -> Result<[u8; 20], RowFault>
 }
 
 pub(crate) fn cons_at(bytes: &mut Unread<'_>) -> Result<ConsAddr, RowFault>
-    ensures { Gives (λ x. (x, bytes.new.left.now)) result (bytes_at 20 bytes.old.left.now) }
+    ensures { IsRead (λ x. (x, bytes.new.left.now)) result (bytes_at 20 bytes.old.left.now) }
 {
     let address = address_at(bytes)?;
     Ok(ConsAddr::of(address))
@@ -130,7 +130,7 @@ pub(crate) fn cons_at(bytes: &mut Unread<'_>) -> Result<ConsAddr, RowFault>
 
 #[tactic(auto, unfolding(crate::specs::Reading::user_at))]
 pub(crate) fn user_at(bytes: &mut Unread<'_>) -> Result<Addr, RowFault>
-    ensures { Gives (λ x. (x, bytes.new.left.now)) result (user_at bytes.old.left.now) }
+    ensures { IsRead (λ x. (x, bytes.new.left.now)) result (user_at bytes.old.left.now) }
 {
     let address = address_at(bytes)?;
     match Addr::of(address) {
@@ -141,7 +141,7 @@ pub(crate) fn user_at(bytes: &mut Unread<'_>) -> Result<Addr, RowFault>
 
 #[tactic(auto, unfolding(crate::specs::Reading::account_at))]
 pub(crate) fn account_at(bytes: &mut Unread<'_>) -> Result<Account, RowFault>
-    ensures { Gives (λ x. (x, bytes.new.left.now)) result (account_at bytes.old.left.now) }
+    ensures { IsRead (λ x. (x, bytes.new.left.now)) result (account_at bytes.old.left.now) }
 {
     let address = address_at(bytes)?;
     Ok(Account::of(address))
@@ -149,7 +149,7 @@ pub(crate) fn account_at(bytes: &mut Unread<'_>) -> Result<Account, RowFault>
 
 #[tactic(auto, unfolding(crate::specs::Reading::denom_at))]
 pub(crate) fn denom_at(bytes: &mut Unread<'_>) -> Result<Denom, RowFault>
-    ensures { Gives (λ x. (x, bytes.new.left.now)) result (denom_at bytes.old.left.now) }
+    ensures { IsRead (λ x. (x, bytes.new.left.now)) result (denom_at bytes.old.left.now) }
 {
     let len = byte_at(bytes)?;
     let name = bytes_at(len as usize, bytes)?;
@@ -161,7 +161,7 @@ pub(crate) fn denom_at(bytes: &mut Unread<'_>) -> Result<Denom, RowFault>
 
 #[tactic(auto, unfolding(crate::specs::Reading::truth_at))]
 pub(crate) fn truth_at(bytes: &mut Unread<'_>) -> Result<bool, RowFault>
-    ensures { Gives (λ x. (x, bytes.new.left.now)) result (truth_at bytes.old.left.now) }
+    ensures { IsRead (λ x. (x, bytes.new.left.now)) result (truth_at bytes.old.left.now) }
 {
     let left = bytes.left;
     match left {
@@ -180,7 +180,7 @@ pub(crate) fn truth_at(bytes: &mut Unread<'_>) -> Result<bool, RowFault>
 
 #[tactic(auto, unfolding(crate::specs::Reading::status_at))]
 pub(crate) fn status_at(bytes: &mut Unread<'_>) -> Result<BondStatus, RowFault>
-    ensures { Gives (λ x. (x, bytes.new.left.now)) result (status_at bytes.old.left.now) }
+    ensures { IsRead (λ x. (x, bytes.new.left.now)) result (status_at bytes.old.left.now) }
 {
     let left = bytes.left;
     match left {
@@ -203,7 +203,7 @@ pub(crate) fn status_at(bytes: &mut Unread<'_>) -> Result<BondStatus, RowFault>
 
 /// Takes the byte that tells the number of this format.
 pub(crate) fn format_at(format: Format, bytes: &mut Unread<'_>) -> Result<(), RowFault>
-    ensures { Gives (λ _. bytes.new.left.now) result (format_at format bytes.old.left.now) }
+    ensures { IsRead (λ _. bytes.new.left.now) result (format_at format bytes.old.left.now) }
 {
     let left = bytes.left;
     match left {

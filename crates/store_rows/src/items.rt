@@ -1,6 +1,6 @@
 //! The item of each kind, from the fields of its key behind the kind's byte and those of its value.
 
-ghost use Rattle.store_rows.specs.Reading.{Gives, amount_of, balance_of, current_of, delegation_of, event_of, head_of, historical_of, item_in, parameters_of, pool_of, purse_of, redelegation_of, signing_of, start_of, supply_of, unbonding_of, user_of, users_of, validator_of, withdraw_of};
+ghost use Rattle.store_rows.specs.Reading.{Gives, IsRead, amount_of, balance_of, current_of, delegation_of, event_of, head_of, historical_of, item_in, parameters_of, pool_of, purse_of, redelegation_of, signing_of, start_of, supply_of, unbonding_of, user_of, users_of, validator_of, withdraw_of};
 
 use crate::coins::coins_at;
 use crate::fault::RowFault;
@@ -19,7 +19,7 @@ use std::alloc::Global;
 
 #[tactic(auto, unfolding(crate::specs::Reading::head_of))]
 fn head_of(format: Format, key: &[u8], value: &[u8]) -> Result<Item, RowFault>
-    ensures { Gives (λ i. i) result (head_of format key.now value.now) }
+    ensures { IsRead (λ i. i) result (head_of format key.now value.now) }
 {
     ends(&Unread { left: key })?;
     let mut value = Unread { left: value };
@@ -32,7 +32,7 @@ fn head_of(format: Format, key: &[u8], value: &[u8]) -> Result<Item, RowFault>
 
 #[tactic(auto, unfolding(crate::specs::Reading::parameters_of))]
 fn parameters_of(key: &[u8], value: &[u8]) -> Result<Item, RowFault>
-    ensures { Gives (λ i. i) result (parameters_of key.now value.now) }
+    ensures { IsRead (λ i. i) result (parameters_of key.now value.now) }
 {
     ends(&Unread { left: key })?;
     let mut value = Unread { left: value };
@@ -44,7 +44,7 @@ fn parameters_of(key: &[u8], value: &[u8]) -> Result<Item, RowFault>
 /// An amount alone, not 0.
 #[tactic(auto, unfolding(crate::specs::Reading::amount_of))]
 fn amount_of(value: &[u8]) -> Result<u128, RowFault>
-    ensures { Gives (λ amount. amount) result (amount_of value.now) }
+    ensures { IsRead (λ amount. amount) result (amount_of value.now) }
 {
     let mut value = Unread { left: value };
     let amount = u128_at(&mut value)?;
@@ -57,7 +57,7 @@ fn amount_of(value: &[u8]) -> Result<u128, RowFault>
 
 #[tactic(auto, unfolding(crate::specs::Reading::balance_of))]
 fn balance_of(key: &[u8], value: &[u8]) -> Result<Item, RowFault>
-    ensures { Gives (λ i. i) result (balance_of key.now value.now) }
+    ensures { IsRead (λ i. i) result (balance_of key.now value.now) }
 {
     let mut key = Unread { left: key };
     let account = account_at(&mut key)?;
@@ -73,7 +73,7 @@ fn balance_of(key: &[u8], value: &[u8]) -> Result<Item, RowFault>
 
 #[tactic(auto, unfolding(crate::specs::Reading::supply_of))]
 fn supply_of(key: &[u8], value: &[u8]) -> Result<Item, RowFault>
-    ensures { Gives (λ i. i) result (supply_of key.now value.now) }
+    ensures { IsRead (λ i. i) result (supply_of key.now value.now) }
 {
     let mut key = Unread { left: key };
     let denom = denom_at(&mut key)?;
@@ -85,7 +85,7 @@ fn supply_of(key: &[u8], value: &[u8]) -> Result<Item, RowFault>
 /// One user alone.
 #[tactic(auto, unfolding(crate::specs::Reading::user_of))]
 fn user_of(bytes: &[u8]) -> Result<Addr, RowFault>
-    ensures { Gives (λ user. user) result (user_of bytes.now) }
+    ensures { IsRead (λ user. user) result (user_of bytes.now) }
 {
     let mut bytes = Unread { left: bytes };
     let user = user_at(&mut bytes)?;
@@ -96,7 +96,7 @@ fn user_of(bytes: &[u8]) -> Result<Addr, RowFault>
 /// Two users alone.
 #[tactic(auto, unfolding(crate::specs::Reading::users_of))]
 fn users_of(bytes: &[u8]) -> Result<(Addr, Addr), RowFault>
-    ensures { Gives (λ users. users) result (users_of bytes.now) }
+    ensures { IsRead (λ users. users) result (users_of bytes.now) }
 {
     let mut bytes = Unread { left: bytes };
     let first = user_at(&mut bytes)?;
@@ -107,7 +107,7 @@ fn users_of(bytes: &[u8]) -> Result<(Addr, Addr), RowFault>
 
 #[tactic(auto, unfolding(crate::specs::Reading::validator_of))]
 fn validator_of(key: &[u8], value: &[u8]) -> Result<Item, RowFault>
-    ensures { Gives (λ i. i) result (validator_of key.now value.now) }
+    ensures { IsRead (λ i. i) result (validator_of key.now value.now) }
 {
     let operator = user_of(key)?;
     let mut value = Unread { left: value };
@@ -118,7 +118,7 @@ fn validator_of(key: &[u8], value: &[u8]) -> Result<Item, RowFault>
 
 #[tactic(auto, unfolding(crate::specs::Reading::delegation_of))]
 fn delegation_of(key: &[u8], value: &[u8]) -> Result<Item, RowFault>
-    ensures { Gives (λ i. i) result (delegation_of key.now value.now) }
+    ensures { IsRead (λ i. i) result (delegation_of key.now value.now) }
 {
     let (operator, delegator) = users_of(key)?;
     let mut value = Unread { left: value };
@@ -211,7 +211,7 @@ fn pool_of(alloc: Global, key: &[u8], value: &[u8]) -> Result<Item, RowFault>
 
 #[tactic(auto, unfolding(crate::specs::Reading::withdraw_of))]
 fn withdraw_of(key: &[u8], value: &[u8]) -> Result<Item, RowFault>
-    ensures { Gives (λ i. i) result (withdraw_of key.now value.now) }
+    ensures { IsRead (λ i. i) result (withdraw_of key.now value.now) }
 {
     let delegator = user_of(key)?;
     let to = user_of(value)?;
@@ -220,7 +220,7 @@ fn withdraw_of(key: &[u8], value: &[u8]) -> Result<Item, RowFault>
 
 #[tactic(auto, unfolding(crate::specs::Reading::current_of))]
 fn current_of(key: &[u8], value: &[u8]) -> Result<Item, RowFault>
-    ensures { Gives (λ i. i) result (current_of key.now value.now) }
+    ensures { IsRead (λ i. i) result (current_of key.now value.now) }
 {
     let operator = user_of(key)?;
     let mut value = Unread { left: value };
@@ -250,7 +250,7 @@ fn historical_of(alloc: Global, key: &[u8], value: &[u8]) -> Result<Item, RowFau
 
 #[tactic(auto, unfolding(crate::specs::Reading::start_of))]
 fn start_of(key: &[u8], value: &[u8]) -> Result<Item, RowFault>
-    ensures { Gives (λ i. i) result (start_of key.now value.now) }
+    ensures { IsRead (λ i. i) result (start_of key.now value.now) }
 {
     let (operator, delegator) = users_of(key)?;
     let mut value = Unread { left: value };
@@ -271,7 +271,7 @@ fn start_of(key: &[u8], value: &[u8]) -> Result<Item, RowFault>
 
 #[tactic(auto, unfolding(crate::specs::Reading::event_of))]
 fn event_of(key: &[u8], value: &[u8]) -> Result<Item, RowFault>
-    ensures { Gives (λ i. i) result (event_of key.now value.now) }
+    ensures { IsRead (λ i. i) result (event_of key.now value.now) }
 {
     let mut key = Unread { left: key };
     let operator = user_at(&mut key)?;
@@ -292,6 +292,7 @@ fn event_of(key: &[u8], value: &[u8]) -> Result<Item, RowFault>
 }
 
 /// The item of this kind.
+#[tactic(auto, using(crate::proofs::ReadsLemmas::read_gives))]
 pub(crate) fn item_in(
     alloc: Global,
     format: Format,

@@ -1,6 +1,6 @@
 //! The entries of unbondings and of redelegations, taken from the front of bytes.
 
-ghost use Rattle.store_rows.specs.Reading.{Gives, each_at, list_at, redelegation_at, unbonding_at};
+ghost use Rattle.store_rows.specs.Reading.{Gives, IsRead, each_at, list_at, redelegation_at, unbonding_at};
 
 use crate::fault::RowFault;
 use crate::fields::{decimal_at, moment_at, u32_at, u64_at, u128_at};
@@ -10,7 +10,7 @@ use std::alloc::Global;
 
 #[tactic(auto, unfolding(crate::specs::Reading::unbonding_at))]
 fn unbonding_at(bytes: &mut Unread<'_>) -> Result<UnbondingEntry, RowFault>
-    ensures { Gives (λ x. (x, bytes.new.left.now)) result (unbonding_at bytes.old.left.now) }
+    ensures { IsRead (λ x. (x, bytes.new.left.now)) result (unbonding_at bytes.old.left.now) }
 {
     let created = u64_at(bytes)?;
     let completes = moment_at(bytes)?;
@@ -56,7 +56,7 @@ pub(crate) fn unbondings_at(
 
 #[tactic(auto, unfolding(crate::specs::Reading::redelegation_at))]
 fn redelegation_at(bytes: &mut Unread<'_>) -> Result<RedelegationEntry, RowFault>
-    ensures { Gives (λ x. (x, bytes.new.left.now)) result (redelegation_at bytes.old.left.now) }
+    ensures { IsRead (λ x. (x, bytes.new.left.now)) result (redelegation_at bytes.old.left.now) }
 {
     let created = u64_at(bytes)?;
     let completes = moment_at(bytes)?;

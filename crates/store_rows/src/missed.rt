@@ -1,6 +1,6 @@
 //! The places of a window of votes in the second format: how many there are, and the missed ones.
 
-ghost use Rattle.std.specs.Prelude.{◌≡◌, ◌<◌, ◌-◌, ◌^◌, ◌++◌, ◌∷◌, [], false, length, replicate, true, Ok, OnOk};
+ghost use Rattle.std.specs.Prelude.{◌≡◌, ◌<◌, ◌-◌, ◌^◌, ◌++◌, ◌∷◌, [], false, length, replicate, true, Ok, IfErr, IfOk, OnOk};
 ghost use Rattle.std.specs.Int.{w32};
 ghost use Rattle.std.specs.List.{flat_map};
 ghost use Rattle.store_rows.specs.Fields.{four_bytes, missed_from, missed_of, missed_ring_bytes};
@@ -49,6 +49,20 @@ fn are_places(end: u32, places: &[u32]) -> bool
     true
 }
 
+/// These places, where they ascend and are below the end. It takes no memory.
+fn judged(end: u32, places: Vec<u32>) -> Result<Vec<u32>, RowFault>
+    ensures same { IfOk result (λ same. same.items ≡ places.items) }
+    ensures right { OnOk result (are_places 0 end places.items ≡ true) }
+    ensures wrong { IfErr result (λ fault. (fault ≡ RowFault.BadRow)
+        × (are_places 0 end places.items ≡ false)) }
+{
+    if are_places(end, &places) {
+        Ok(places)
+    } else {
+        Err(RowFault::BadRow)
+    }
+}
+
 /// Appends so many signed places.
 fn push_signed(ring: &mut Vec<bool>, count: usize) -> Result<(), AllocError>
     ensures { OnOk result (ring.new.items ≡ ring.old.items ++ replicate count false) }
@@ -92,10 +106,7 @@ pub(crate) fn missed_ring_at(
 {
     let end = u32_at(bytes)?;
     let count = u32_at(bytes)?;
-    let missed = each_place(alloc, count, bytes)?;
-    if !are_places(end, &missed) {
-        return Err(RowFault::BadRow);
-    }
+    let missed = judged(end, each_place(alloc, count, bytes)?)?;
     let ring = places_with(alloc, end, &missed)?;
     Ok(Listed::of(ring))
 }

@@ -1,6 +1,6 @@
 //! The places of a window of votes in the first format: eight in a byte, the first in the lowest bit.
 
-ghost use Rattle.std.specs.Prelude.{◌≡◌, ◌≤◌, ◌<◌, ◌/◌, ◌^◌, ◌++◌, ◌==◌, length, OnOk};
+ghost use Rattle.std.specs.Prelude.{◌≡◌, ◌≤◌, ◌<◌, ◌/◌, ◌^◌, ◌++◌, ◌==◌, false, length, true, IfErr, OnOk};
 ghost use Rattle.store_rows.specs.Fields.{packed, packed_len, packed_ring_bytes, places_byte};
 ghost use Rattle.store_rows.specs.Reading.{Gives, packed_ring_at, places_in, places_of};
 
@@ -32,6 +32,20 @@ fn is_clear_behind(count: usize, byte: u8) -> bool
     (byte as u16) >> count == 0
 }
 
+/// Nothing, where the byte has no bit behind so many places, at most eight. It takes no memory.
+fn ends_behind(count: usize, byte: u8) -> Result<(), RowFault>
+    requires { count ≤ 8 }
+    ensures clear { OnOk result (((byte / 2 ^ count) == 0) ≡ true) }
+    ensures more { IfErr result (λ fault. (fault ≡ RowFault.BadRow)
+        × (((byte / 2 ^ count) == 0) ≡ false)) }
+{
+    if is_clear_behind(count, byte) {
+        Ok(())
+    } else {
+        Err(RowFault::BadRow)
+    }
+}
+
 /// So many places. The bits behind the last are 0.
 fn places_of(alloc: Global, count: usize, bytes: &[u8]) -> Result<Vec<bool>, RowFault>
     ensures { Gives (λ places. places.items) result (places_of count bytes.now) }
@@ -40,9 +54,7 @@ fn places_of(alloc: Global, count: usize, bytes: &[u8]) -> Result<Vec<bool>, Row
     let mut left = count;
     'bytes: for byte in bytes {
         let here = left.min(8);
-        if !is_clear_behind(here, *byte) {
-            return Err(RowFault::BadRow);
-        }
+        ends_behind(here, *byte)?;
         push_places(&mut places, here, *byte)?;
         left -= here;
     }

@@ -3,7 +3,8 @@
 ghost use Rattle.std.specs.Prelude.{◌≡◌, ◌≢◌, ◌++◌, OnOk, IfOk, IfErr, IsErrOf};
 ghost use Rattle.base_io.specs.Changes.{pair_of};
 ghost use Rattle.base_roles.specs.declared.items.Item.{Item};
-ghost use Rattle.store_rows.specs.Reading.{Gives, item_of};
+ghost use Rattle.store_rows.specs.Reading.{Gives, item_of, or_bad};
+ghost use Rattle.store_rows.specs.Kinds.{kind_of};
 ghost use Rattle.store_rows.specs.Rows.{key_bytes, key_fields, kind_in, row_in, value_in};
 ghost use Rattle.store_rows.specs.Spelled.{HasRow, IsInRange, IsKeyInRange, IsWritable};
 
@@ -189,16 +190,21 @@ pub fn encode(alloc: Global, format: Format, item: &Item) -> Result<Row, RowFaul
     Ok(Row { key, value })
 }
 
+/// The kind whose keys begin with this byte.
+fn kind_at(prefix: u8) -> Result<Kind, RowFault>
+    ensures { result ≡ or_bad (kind_of prefix) }
+{
+    Kind::of(prefix).ok_or(RowFault::BadRow)
+}
+
 #[tactic(auto, unfolding(crate::specs::Reading::item_of))]
 fn item_of(alloc: Global, format: Format, key: &[u8], value: &[u8]) -> Result<Item, RowFault>
     ensures { Gives (λ i. i) result (item_of format key.now value.now) }
 {
     let mut key = Unread { left: key };
     let prefix = byte_at(&mut key)?;
-    match Kind::of(prefix) {
-        Some(kind) => item_in(alloc, format, kind, key.left, value),
-        None => Err(RowFault::BadRow),
-    }
+    let kind = kind_at(prefix)?;
+    item_in(alloc, format, kind, key.left, value)
 }
 
 /// The item of these bytes, and what is known of it.

@@ -4,7 +4,7 @@ ghost use Rattle.std.specs.Prelude.{◌≡◌, IfSome, Some, map};
 ghost use Rattle.base_io.specs.Changes.{pair_of};
 ghost use Rattle.base_roles.specs.declared.items.Item.{Item};
 ghost use Rattle.store_rows.specs.declared.format.Format.{Format};
-ghost use Rattle.store_rows.specs.Reading.{Gives, length_at};
+ghost use Rattle.store_rows.specs.Reading.{IsRead, length_at};
 ghost use Rattle.store_rows.specs.Rows.{row_in};
 ghost use Rattle.store_rows.specs.Spelled.{HasRow};
 ghost use Rattle.store_rows.specs.Told.{format_in, format_told, is_head_key, window_of};
@@ -54,7 +54,7 @@ pub fn format_of(rows: &[Row]) -> Option<Format>
 /// The length of the ring of a signing record, from the fields in front of it.
 #[tactic(auto, unfolding(crate::specs::Reading::length_at))]
 fn length_at(key: &[u8], value: &[u8]) -> Result<u32, RowFault>
-    ensures { Gives (λ n. n) result (length_at key.now value.now) }
+    ensures { IsRead (λ n. n) result (length_at key.now value.now) }
 {
     let mut key = Unread { left: key };
     let prefix = byte_at(&mut key)?;

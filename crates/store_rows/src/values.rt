@@ -1,6 +1,6 @@
 //! The larger values, taken from the front of bytes.
 
-ghost use Rattle.store_rows.specs.Reading.{Gives, commission_at, info_at, params_at, validator_at};
+ghost use Rattle.store_rows.specs.Reading.{IsRead, commission_at, info_at, params_at, validator_at};
 
 use crate::fault::RowFault;
 use crate::fields::{
@@ -12,7 +12,7 @@ use base_types::Addr;
 
 #[tactic(auto, unfolding(crate::specs::Reading::params_at))]
 pub(crate) fn params_at(bytes: &mut Unread<'_>) -> Result<Params, RowFault>
-    ensures { Gives (λ x. (x, bytes.new.left.now)) result (params_at bytes.old.left.now) }
+    ensures { IsRead (λ x. (x, bytes.new.left.now)) result (params_at bytes.old.left.now) }
 {
     let bond_denom = denom_at(bytes)?;
     let power_reduction = u64_at(bytes)?;
@@ -53,7 +53,7 @@ pub(crate) fn params_at(bytes: &mut Unread<'_>) -> Result<Params, RowFault>
 
 #[tactic(auto, unfolding(crate::specs::Reading::commission_at))]
 fn commission_at(bytes: &mut Unread<'_>) -> Result<Commission, RowFault>
-    ensures { Gives (λ x. (x, bytes.new.left.now)) result (commission_at bytes.old.left.now) }
+    ensures { IsRead (λ x. (x, bytes.new.left.now)) result (commission_at bytes.old.left.now) }
 {
     let rate = decimal_at(bytes)?;
     let max_rate = decimal_at(bytes)?;
@@ -71,7 +71,7 @@ fn commission_at(bytes: &mut Unread<'_>) -> Result<Commission, RowFault>
 /// The validator of this operator.
 #[tactic(auto, unfolding(crate::specs::Reading::validator_at))]
 pub(crate) fn validator_at(operator: Addr, bytes: &mut Unread<'_>) -> Result<Validator, RowFault>
-    ensures { Gives (λ x. (x, bytes.new.left.now)) result
+    ensures { IsRead (λ x. (x, bytes.new.left.now)) result
         (validator_at operator bytes.old.left.now) }
 {
     let cons = cons_at(bytes)?;
@@ -100,7 +100,7 @@ pub(crate) fn validator_at(operator: Addr, bytes: &mut Unread<'_>) -> Result<Val
 
 #[tactic(auto, unfolding(crate::specs::Reading::info_at))]
 pub(crate) fn info_at(bytes: &mut Unread<'_>) -> Result<SigningInfo, RowFault>
-    ensures { Gives (λ x. (x, bytes.new.left.now)) result (info_at bytes.old.left.now) }
+    ensures { IsRead (λ x. (x, bytes.new.left.now)) result (info_at bytes.old.left.now) }
 {
     let start = u64_at(bytes)?;
     let counted = u64_at(bytes)?;

@@ -1,4 +1,5 @@
 mod BankLemmas
+mod CountedLemmas
 mod PeriodLemmas
 mod StakingLemmas
 pub mod UnbondingLemmas

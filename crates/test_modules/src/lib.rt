@@ -9,6 +9,7 @@ mod bank_letting_go;
 mod bank_tests;
 #[cfg(test)]
 mod bank_trials;
+pub mod counted;
 #[cfg(test)]
 mod period_calls;
 #[cfg(test)]

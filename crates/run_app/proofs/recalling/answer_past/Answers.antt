@@ -1,41 +1,57 @@
-use Rattle.std.proofs.Common.{◌≡◌, ◌<◌, ap, inr, length, map, refl, rules}
+use Rattle.std.proofs.Common.{inr, map, refl}
 use Rattle.base_io.specs.Changes.{pair_of}
-use Rattle.store_resuming.proofs.RestoreLemmas.{empty_pairs, some_pairs}
-use Rattle.run_app.proofs.ModeLemmas.{nothing, rows_left}
-use Rattle.run_app.proofs.PastLemmas.{none_loaded, past_loaded}
+use Rattle.run_app.proofs.ModeLemmas.{nothing, quiet_at, quiet_keep, rows_left}
+use Rattle.run_app.proofs.PastLemmas.{not_loaded, past_loaded}
+use Rattle.run_app.proofs.ResumeLemmas.{no_rows_found, unresumed_busy, unresumed_cause, unresumed_quiet, unresumed_undone, unresumed_unread, unresumed_unwritten}
 use Rattle.run_app.proofs.recalling.answer_past.Goals as goal
 
-pub returns-in-Err-Failed-clause-ends : goal.returns-in-Err-Failed-clause-ends
-returns-in-Err-Failed-clause-ends g c = (rows_left _ _ _ _ _ c.load.ensures.same c.load.ensures.stop, inr (tt, nothing _ _ refl))
+-- ---- rows that were not loaded, or are none
 
-pub returns-in-Err-NoMemory-clause-ends : goal.returns-in-Err-NoMemory-clause-ends
-returns-in-Err-NoMemory-clause-ends g c = (rows_left _ _ _ _ _ c.load.ensures.same c.load.ensures.stop, inr (tt, nothing _ _ refl))
+pub returns-in-Err-clause-ends : goal.returns-in-Err-clause-ends
+returns-in-Err-clause-ends g c =
+    let e = c.load_rows.ensures in
+    rw c.status_of_restore.ensures
+    (rows_left _ _ _ _ _ e.same e.stop, inr (not_loaded c.args.height c.in-Err.fault _ _ _ c.in-Err.ensures.unjudged c.in-Err.ensures.fault, nothing _ _ refl))
 
-pub returns-then-is_empty-clause-ends : goal.returns-then-is_empty-clause-ends
-returns-then-is_empty-clause-ends g c =
-    let none : length c.in-Ok.rows.items ≡ 0 = search rules in (
-      rows_left _ _ _ _ _ c.load.ensures.same c.load.ensures.stop,
-      inr ((refl, none_loaded _ _ _ (map pair_of c.in-Ok.rows.items) c.in-Ok.ensures.rows c.load.ensures.ascending c.in-Ok.ensures.told (empty_pairs c.in-Ok.rows.items none)), nothing _ _ refl),
-    )
+pub returns-in-Err-clause-busy : goal.returns-in-Err-clause-busy
+returns-in-Err-clause-busy g c = rw c.status_of_restore.ensures (unresumed_busy c.in-Err.fault)
+
+pub returns-in-Err-clause-read : goal.returns-in-Err-clause-read
+returns-in-Err-clause-read g c = rw c.status_of_restore.ensures (unresumed_unread c.in-Err.fault)
+
+pub returns-in-Err-clause-unkept : goal.returns-in-Err-clause-unkept
+returns-in-Err-clause-unkept g c = rw c.status_of_restore.ensures (λ off. (no_rows_found c.in-Err.fault (c.in-Err.ensures.unkept off), nothing _ _ refl))
+
+pub returns-in-Err-clause-clean : goal.returns-in-Err-clause-clean
+returns-in-Err-clause-clean g c = rw c.status_of_restore.ensures (λ e. absurd (unresumed_undone c.in-Err.fault e))
+
+pub returns-in-Err-clause-write_cause : goal.returns-in-Err-clause-write_cause
+returns-in-Err-clause-write_cause g c = rw c.status_of_restore.ensures (λ e. absurd (unresumed_unwritten c.in-Err.fault e))
+
+pub returns-in-Err-clause-write_quiet : goal.returns-in-Err-clause-write_quiet
+returns-in-Err-clause-write_quiet g c = quiet_at _ _ refl
+
+pub returns-in-Err-clause-keep_cause : goal.returns-in-Err-clause-keep_cause
+returns-in-Err-clause-keep_cause g c = rw c.status_of_restore.ensures (unresumed_cause c.in-Err.fault _ c.in-Err.ensures.cause)
+
+pub returns-in-Err-clause-keep_quiet : goal.returns-in-Err-clause-keep_quiet
+returns-in-Err-clause-keep_quiet g c = rw c.status_of_restore.ensures (unresumed_quiet c.in-Err.fault _ c.in-Err.ensures.quiet)
+
+-- ---- rows that are asked
 
 pub returns-clause-ends : goal.returns-clause-ends
 returns-clause-ends g c =
-    let some : 0 < length c.in-Ok.rows.items = search rules in
+    let e = c.load_rows.ensures in
     let answers = rw c.deref.ensures.value at c.answer_at.ensures.answers in (
-      rows_left _ _ _ _ _ c.load.ensures.same c.load.ensures.stop,
-      past_loaded _ _ _ (map pair_of c.in-Ok.rows.items) c.in-Ok.ensures.rows c.load.ensures.ascending c.in-Ok.ensures.told c.args.form c.args.height c.args.what.now _ _ c.answer_at.result (some_pairs c.in-Ok.rows.items some) answers,
+      rows_left _ _ _ _ _ e.same e.stop,
+      past_loaded _ _ _ (map pair_of c.in-Ok.rows.items) c.in-Ok.ensures.rows e.ascending c.in-Ok.ensures.told c.args.form c.args.height c.args.what.now _ _ c.answer_at.result c.in-Ok.ensures.some answers,
     )
 
-pub returns-in-Err-Failed-clause-unkept : goal.returns-in-Err-Failed-clause-unkept
-returns-in-Err-Failed-clause-unkept g c = λ off. (tt, nothing _ _ refl)
-
-pub returns-in-Err-NoMemory-clause-unkept : goal.returns-in-Err-NoMemory-clause-unkept
-returns-in-Err-NoMemory-clause-unkept g c = λ off. (tt, nothing _ _ refl)
-
-pub returns-then-is_empty-clause-unkept : goal.returns-then-is_empty-clause-unkept
-returns-then-is_empty-clause-unkept g c = λ off. (refl, nothing _ _ refl)
-
 pub returns-clause-unkept : goal.returns-clause-unkept
-returns-clause-unkept g c = λ off.
-    let some : 0 < length c.in-Ok.rows.items = search rules in
-    absurd (some_pairs c.in-Ok.rows.items some (ap (map pair_of) (c.in-Ok.ensures.unkept off)))
+returns-clause-unkept g c = λ off. absurd (c.in-Ok.ensures.unkept off)
+
+pub returns-clause-keep_cause : goal.returns-clause-keep_cause
+returns-clause-keep_cause g c = λ e. absurd (c.answer_at.ensures.keep e)
+
+pub returns-clause-keep_quiet : goal.returns-clause-keep_quiet
+returns-clause-keep_quiet g c = quiet_keep _ _ c.in-Ok.ensures.quiet

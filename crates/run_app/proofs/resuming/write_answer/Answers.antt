@@ -1,32 +1,4 @@
-use Rattle.run_app.proofs.ModeLemmas.{busy_so, cause_so, clean_so, keep_so, quiet_so, read_so, written_so}
-use Rattle.run_app.proofs.ResumeLemmas.{answered_none, answered_some, answered_without_memory}
 use Rattle.run_app.proofs.resuming.write_answer.Goals as goal
 
-pub returns-in-Ok-Some-clause-ends : goal.returns-in-Ok-Some-clause-ends
-returns-in-Ok-Some-clause-ends g c = λ p s.
-    answered_some _ c.in-Ok-Some.text.items _ _ _ (rw c.in-Ok-Some.field-0-is at (c.in-Ok-Some.ensures.text p s))
-    (rw (c.status_of_sink.ensures, ← c.deref.ensures.value) (written_so c.write_text.result _ _ _ c.write_text.ensures.text c.write_text.ensures.front))
-
-pub returns-in-Ok-Some-clause-busy : goal.returns-in-Ok-Some-clause-busy
-returns-in-Ok-Some-clause-busy g c = rw c.status_of_sink.ensures (busy_so c.write_text.result)
-
-pub returns-in-Ok-Some-clause-read : goal.returns-in-Ok-Some-clause-read
-returns-in-Ok-Some-clause-read g c = rw c.status_of_sink.ensures (read_so c.write_text.result)
-
-pub returns-in-Ok-Some-clause-keep : goal.returns-in-Ok-Some-clause-keep
-returns-in-Ok-Some-clause-keep g c = rw c.status_of_sink.ensures (keep_so c.write_text.result)
-
-pub returns-in-Ok-Some-clause-clean : goal.returns-in-Ok-Some-clause-clean
-returns-in-Ok-Some-clause-clean g c = rw c.status_of_sink.ensures (clean_so c.write_text.result _ c.write_text.ensures.clean)
-
-pub returns-in-Ok-Some-clause-write_cause : goal.returns-in-Ok-Some-clause-write_cause
-returns-in-Ok-Some-clause-write_cause g c = rw c.status_of_sink.ensures (cause_so c.write_text.result _ c.write_text.ensures.cause)
-
-pub returns-in-Ok-Some-clause-write_quiet : goal.returns-in-Ok-Some-clause-write_quiet
-returns-in-Ok-Some-clause-write_quiet g c = rw c.status_of_sink.ensures (quiet_so c.write_text.result _ c.write_text.ensures.quiet)
-
-pub returns-in-Ok-None-clause-ends : goal.returns-in-Ok-None-clause-ends
-returns-in-Ok-None-clause-ends g c = λ p s. answered_none _ _ (rw c.in-Ok-None.field-0-is at (c.in-Ok-None.ensures.text p s))
-
-pub returns-in-Err-clause-ends : goal.returns-in-Err-clause-ends
-returns-in-Err-clause-ends g c = λ p s. answered_without_memory _ _
+pub returns-clause-ends : goal.returns-clause-ends
+returns-clause-ends g c = λ p s. c.write_told.ensures.ends _ (c.answer_text.ensures.text p s)
