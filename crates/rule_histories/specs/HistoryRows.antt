@@ -1,12 +1,14 @@
 -- Worked histories of the whole machine, from a genesis through whole blocks.
-use Rattle.std.specs.Prelude.{◌≡◌, ℕ, zero, suc, ◌+◌, ◌-◌, ◌*◌, ◌^◌, ◌%◌, ◌==◌, if◌then◌else◌, List, [], ◌∷◌, ◌++◌, map, Option, Some, None, Ok}
+use Rattle.std.specs.Prelude.{◌≡◌, ℕ, zero, suc, ◌+◌, ◌-◌, ◌*◌, ◌^◌, ◌%◌, ◌<◌, ◌==◌, nat_le, if◌then◌else◌, Bool, List, [], ◌∷◌, ◌++◌, map, length, Option, Some, None, Ok}
 use Rattle.std.specs.List.{filter_map}
 use Rattle.base_types.specs.declared.account.Account.TheVariants as account
 use Rattle.base_types.specs.declared.account.Module.TheVariants as holder
-use Rattle.base_coins.specs.Coins.{Money}
+use Rattle.base_coins.specs.Coins.{Money, amount_of}
 use Rattle.base_roles.specs.declared.facts.Fact.{Fact}
 use Rattle.base_roles.specs.declared.facts.Fact.TheVariants as fact
 use Rattle.base_roles.specs.declared.messages.Vote.{Vote}
+use Rattle.base_roles.specs.Log.{LogEntry}
+use Rattle.base_roles.specs.Log as log
 use Rattle.base_messages.specs.declared.block.Block.{Block}
 use Rattle.base_messages.specs.declared.block.Tx.{Tx}
 use Rattle.base_messages.specs.declared.faults.BlockFault.{BlockFault}
@@ -16,7 +18,12 @@ use Rattle.base_messages.specs.declared.report.BlockReport.{BlockReport}
 use Rattle.base_messages.specs.declared.report.Outcome.{Outcome}
 use Rattle.base_messages.specs.declared.report.Outcome.TheVariants.{Accepted}
 use Rattle.base_messages.specs.declared.report.TxReport.{TxReport}
-use Rattle.rule_modules.specs.Fixtures.{addr, user, coins, decimals, params, time_of, signs}
+use Rattle.rule_modules.specs.Amounts.{count_where}
+use Rattle.rule_modules.specs.Fixtures.{addr, user, uatom, coin, coins, decimals, params, time_of, signs, proves}
+use Rattle.rule_modules.specs.Ideal.{history_of, is_left, overclaim_of}
+use Rattle.rule_modules.specs.Periods.{last_ended, periods_of, ratio_at}
+use Rattle.rule_modules.specs.Purses.{purse_of}
+use Rattle.rule_machine.specs.Machine.{Run}
 use Rattle.rule_histories.specs.WholeRows.{holds, operates, delegates, block_of, pays, ran}
 use Rattle.rule_modules.specs.Chain.{shared_in}
 
@@ -115,3 +122,95 @@ abbrev pub AllWithdraw : Type 0
 AllWithdraw =
     ran forty_delegators (thirty_blocks ++ all_withdraw ∷ []) (λ r. payments_of_last r.reports)
     ≡ Ok (map (λ n. (coins (paid_by (operator_for n)) ∷ [], Accepted)) forty)
+
+-- ---- thirty delegators that undelegate again and again
+
+-- users 101 to 130
+abbrev pub thirty : List ℕ
+thirty = numbers_from 101 30
+
+-- An operator with 1,000,000 and thirty delegators with 100,000 each; no tax and no commission. User 4 is there for the fees.
+abbrev pub thirty_delegators : Genesis
+thirty_delegators = record {
+  time = time_of 0;
+  params = params;
+  accounts = holds 4 10000 ∷ [];
+  validators = operates 1 0 ∷ [];
+  delegations = delegates 1 1 1000000 ∷ map (λ n. delegates n 1 100000) thirty;
+}
+
+-- evidence of height 1, with a power of 4: a twentieth of 4,000,000 is burned, so that 3,800,000 are left
+abbrev pub slashed_by_evidence : Block
+slashed_by_evidence = block_of 2 [] (proves 1 1 4 ∷ []) []
+
+-- a fee of 1,000
+abbrev pub fee_of_thousand : Tx
+fee_of_thousand = pays 4 1000 []
+
+-- a user undelegates 1
+abbrev pub takes_one : ℕ → Tx
+takes_one n = pays n 0 (msg.Undelegate (record { delegator = addr n; validator = addr 1; amount = coin 1 }) ∷ [])
+
+-- a user withdraws
+abbrev pub withdraws : ℕ → Tx
+withdraws n = pays n 0 (msg.WithdrawReward (record { delegator = addr n; validator = addr 1 }) ∷ [])
+
+-- ten blocks with fees and a vote, in the first seven of which each of the thirty undelegates 1; in one more all withdraw
+abbrev pub undelegating_blocks : List Block
+undelegating_blocks =
+    block_of 1 [] [] []
+    ∷ slashed_by_evidence
+    ∷ map (λ h. block_of h (signs 1 3 ∷ []) [] (fee_of_thousand ∷ map takes_one thirty)) (numbers_from 3 7)
+    ++ map (λ h. block_of h (signs 1 3 ∷ []) [] (fee_of_thousand ∷ [])) (numbers_from 10 3)
+    ++ block_of 13 (signs 1 3 ∷ []) [] (map withdraws (1 ∷ thirty)) ∷ []
+
+-- what was withdrawn: the full reward, and what was outstanding then
+abbrev pub reward_in : LogEntry → Option (Money × Money)
+reward_in (log.withdrawn who payee full outstanding) = Some (full, outstanding)
+reward_in _ = None
+
+-- what is outstanding does not cut a reward
+abbrev pub is_whole : Money × Money → Bool
+is_whole r = nat_le (amount_of r.0 uatom) (amount_of r.1 uatom)
+
+-- What is left of the validator behind a run: how many rewards were withdrawn, how many of them whole, and how often
+-- shares left it; its last ratio, what is outstanding, and by how much claims may exceed that, in units of 10^-36.
+pub record Behind : Type 0 where
+  pub rewards : ℕ
+  pub whole : ℕ
+  pub left : ℕ
+  pub ratio : Money
+  pub outstanding : Money
+  pub overclaim : ℕ
+
+abbrev pub behind_of : List LogEntry → Money → Money → Behind
+behind_of history ratio outstanding = record {
+  rewards = length (filter_map reward_in history);
+  whole = count_where is_whole (filter_map reward_in history);
+  left = count_where is_left history;
+  ratio = ratio;
+  outstanding = outstanding;
+  overclaim = overclaim_of uatom history ratio;
+}
+
+abbrev pub behind_run : Run → Behind
+behind_run r =
+    let shared = shared_in r.state in
+    let p = periods_of shared.rewards (addr 1) in
+    behind_of (history_of (addr 1) r.state.log []) (ratio_at p.ratios (last_ended p)) (purse_of shared.purses (addr 1)).outstanding
+
+-- Shares leave 210 times, and all 241 rewards are paid whole; the overclaim is below one unit.
+pub record NoneIsCut : Type 0 where
+  pub run : ran {A = Option BlockFault × Behind} thirty_delegators undelegating_blocks (λ r. (r.fault, behind_run r))
+      ≡ Ok (
+        None,
+        record {
+          rewards = 241;
+          whole = 241;
+          left = 210;
+          ratio = decimals 2631680752629987;
+          outstanding = decimals 16332191;
+          overclaim = 552652958052297270;
+        },
+      )
+  pub below_a_unit : 552652958052297270 < 10 ^ 18

@@ -2,7 +2,7 @@
 
 ghost use Rattle.rule_histories.specs.Worked.{OneAccountStarts, OneSend, SendChangesFour, RefusedChangesHead, HeightMissed, TimeBefore, TimeAgain, TimePast, SecondSendShort, TwoDenominations, FeeTooHigh, ToAModule, NoCoins, MayStart, ParameterOutOfRange, ModuleAccount, AccountTwice, TooMuch};
 ghost use Rattle.rule_histories.specs.WholeRows.{MayStartChain, WrongBeginnings, ValidatorsTwice, WrongRates, WrongDelegations, TooMuchDelegated, FirstIsNamed, WrongPlaces, WrongVotes, WrongEvidence, VotesComeFirst, LimitsOfBeginnings, OutcomesOfMessages};
-ghost use Rattle.rule_histories.specs.HistoryRows.{FeesOfThirtyBlocks, AllWithdraw};
+ghost use Rattle.rule_histories.specs.HistoryRows.{FeesOfThirtyBlocks, AllWithdraw, NoneIsCut};
 ghost use Rattle.rule_histories.specs.LifeRows.{GenesisIsTold, BlocksAreTold, EndIsReported};
 ghost use Rattle.rule_histories.specs.ListeningRows.{GenesisIsHeard, BlocksAreHeard};
 ghost use Rattle.rule_histories.specs.LeavingRows.{LeavingIsTold, GoneAtOnce, HeldWhileUnbonded, GoneWithLastDelegation, BegunAnew, HeldWithoutShares, GoneAsItMatures};
@@ -62,6 +62,12 @@ pub fn messages_by_example()
 pub fn forty_delegators_by_example()
     ensures fees { FeesOfThirtyBlocks }
     ensures withdrawals { AllWithdraw }
+{}
+
+/// Thirty delegators of a validator that was slashed undelegate 1 in each of seven blocks with fees, and then all withdraw: no
+/// payment is cut.
+pub fn thirty_delegators_by_example()
+    ensures { NoneIsCut }
 {}
 
 /// Four blocks with a delegation, an undelegation, a missed vote, evidence and what is mature, and the report at their end.

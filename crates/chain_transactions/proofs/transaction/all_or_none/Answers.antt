@@ -51,6 +51,19 @@ returns-in-Ok-Some-clause-steady g c =
       stands = whole_same (kept_of old) (kept_over (parts_of back) old.ground.ctx c.cut.new.self) steady.state same steady.stands;
     }
 
+pub returns-in-Ok-None-clause-steady : goal.returns-in-Ok-None-clause-steady
+returns-in-Ok-None-clause-steady g c =
+    let is : c.in-Ok-None.field-0 ≡ None = cc in
+    let applied = c.apply_messages.new.modules in
+    let last = c.forget.new.self in
+    let same = c.forget.ensures.same in
+    let steady = c.in-Ok-None.ensures.steady is in
+    record {
+      power = c.forget.ensures.power ∙ steady.power ∙ sym (ap (λ (k : KeptState). k.view.ctx.params.power_reduction) same);
+      state = steady.state;
+      stands = whole_same (kept_of applied) (kept_of last) steady.state same steady.stands;
+    }
+
 pub returns-in-Ok-Some-clause-moment : goal.returns-in-Ok-Some-clause-moment
 returns-in-Ok-Some-clause-moment g c = record { height = refl; time = refl; bond_denom = refl; power_reduction = refl }
 
