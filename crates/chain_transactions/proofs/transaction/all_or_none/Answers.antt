@@ -98,13 +98,3 @@ returns-in-Ok-None-clause-heard g c = λ w s.
     let is : c.in-Ok-None.field-0 ≡ None = cc in
     accepted_hears g.E.Extra.heard g.E.Extra.hears c.apply_messages.new.modules c.forget.new.self w (messages_heard g.E.Extra.hears c.args.messages.now w)
     (c.in-Ok-None.ensures.heard w (hears_same g.E.Extra.heard old marked w c.mark.ensures.same (listens.restores _ _ c.mark.ensures.listener_same) s) is) c.forget.ensures.same (listens.restores _ _ c.forget.ensures.listener_same)
-
-pub returns-in-Ok-None-clause-steady : goal.returns-in-Ok-None-clause-steady
-returns-in-Ok-None-clause-steady g c =
-    let steady = c.in-Ok-None.ensures.steady in
-    let same = c.forget.ensures.same in
-    record {
-      power = c.forget.ensures.power ∙ steady.power ∙ ap (λ (k : KeptState). k.view.ctx.params.power_reduction) (sym same);
-      state = steady.state;
-      stands = whole_same (kept_of c.apply_messages.new.modules) (kept_of c.forget.new.self) steady.state same steady.stands;
-    }
