@@ -35,3 +35,6 @@ returns-clause-heard g c = λ w s none.
     let most : place ≤ length c.args.messages.now = omega (arith, c.loop-place.auto.place-end) in
     let least : length c.args.messages.now ≤ place = omega (arith, c.loop-place-test.false) in
     all_heard g.E.Extra.heard g.E.Extra.hears c.args.messages.now place c.args.modules.now c.loop-place.modules (drop_end c.args.messages.now place most least) c.loop-place.invariant.2 w s
+
+pub returns-in-Err-Refused-clause-heard : goal.returns-in-Err-Refused-clause-heard
+returns-in-Err-Refused-clause-heard g c = λ w s none. absurd cc
