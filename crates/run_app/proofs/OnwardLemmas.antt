@@ -43,7 +43,7 @@ start_clears g =
     on_then (stake_added chain_told g (staked_in (empty_over (ground_at_start g)))) _ (λ x. Unit {0}) _ (any_ok (stake_added chain_told g (staked_in (empty_over (ground_at_start g))))) (λ x k.
     on_lifted Overflow (set_updated chain_told x) _ _ (λ y f. refl))
 
-step_sound : (b : Block) (w : State) (done : Step) → IsSound w → AllHaveCoins b → w.view.ctx.height + 1 < 2 ^ 63 → step b w ≡ Ok done → IsSound done.state
+pub step_sound : (b : Block) (w : State) (done : Step) → IsSound w → AllHaveCoins b → w.view.ctx.height + 1 < 2 ^ 63 → step b w ≡ Ok done → IsSound done.state
 step_sound b w done s coins room e =
     let P : List ℕ → Type 0 = Contains s.few.some in
     let after : StepFits P w done = from_if (StepFits P w) (step b w) done e (block_fits P b (total_in w.view) w (its_coins b coins) (to_fits w s) room) in

@@ -14,6 +14,7 @@ use Rattle.run_app.specs.Machine.{Answer, Standing, report_of}
 use Rattle.run_app.specs.Rejoined.{AreJoined, RunsGoOn, StoppedRunsGoOn}
 use Rattle.run_app.specs.Runs.{AreAnswered, ran_from, ran_report}
 use Rattle.run_app.specs.Stops.{IsOfAnswers}
+use Rattle.run_app.proofs.AlikeLemmas.{rows_decide}
 use Rattle.run_app.proofs.OnwardLemmas.{runs_may_go_on}
 use Rattle.run_app.proofs.RestLemmas.{answers_join, the_rest}
 use Rattle.run_app.proofs.StopLemmas.{one_more}
@@ -79,4 +80,4 @@ stopped_runs_go_on form first input text left may b =
     }
 
 pub runs_go_on : (form : Form) → RunsGoOn form
-runs_go_on form = record { stopped = stopped_runs_go_on form; rest = the_rest form; joined = answers_join form; onward = runs_may_go_on form }
+runs_go_on form = record { stopped = stopped_runs_go_on form; rest = the_rest form; joined = answers_join form; onward = runs_may_go_on form; alike = rows_decide form }

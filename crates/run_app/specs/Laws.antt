@@ -11,6 +11,8 @@ use Rattle.rule_modules.specs.Sound.{IsSound}
 use Rattle.rule_machine.specs.Promises.{Replayed, run_in}
 use Rattle.rule_machine.specs.Report as machine
 use Rattle.line_report.specs.Lines as report
+use Rattle.store_commits.specs.Held.{rows_at}
+use Rattle.store_resuming.specs.Restored.{HaveSameRows, IsStorable}
 use Rattle.run_app.specs.declared.status.LineStop.{LineStop}
 use Rattle.run_app.specs.declared.status.LineStop.TheVariants as stop
 use Rattle.run_app.specs.Lines.{lines_of}
@@ -98,3 +100,16 @@ abbrev pub AnswersJoin : Form → Type 0
 AnswersJoin form =
     (first middle end : Standing) (lines more : List (List ℕ)) (text text' : List ℕ) → AreAnswered form 1 first lines text middle
     → AreAnswered form 1 middle more text' end → AreAnswered form 1 first (lines ++ more) (text ++ text') end
+
+-- Two states answer alike. Each input has from both the same text, the report with it, and the same fault or none; where its lines
+-- are answered they lead from both to states of the same rows; and both have one report, and one stake by which ballots are counted.
+pub record AnswerAlike (form : Form) (p q : State) : Type 0 where
+  pub ran : (n : ℕ) (lines : List (List ℕ)) → ran_from form n (Some p) lines ≡ ran_from form n (Some q) lines
+  pub rows : (n : ℕ) (lines : List (List ℕ)) (text : List ℕ) (end : Standing) → AreAnswered form n (Some p) lines text end
+      → (other : Standing) × AreAnswered form n (Some q) lines text other × (rows_at end ≡ rows_at other)
+  pub report : machine.report_of p ≡ machine.report_of q
+  pub staked : p.mine.staked ≡ q.mine.staked
+
+-- States that a keeper can hold and whose rows are the same answer alike: the rows of a store decide all later answers.
+abbrev pub RowsDecideAnswers : Form → Type 0
+RowsDecideAnswers form = (p q : State) → IsStorable p → IsStorable q → HaveSameRows p q → AnswerAlike form p q

@@ -6,7 +6,7 @@ use Rattle.rule_modules.specs.Chain.{State}
 use Rattle.run_generated.specs.Writing.{IsFront}
 use Rattle.store_commits.specs.Held.{rows_at}
 use Rattle.store_resuming.specs.Restored.{IsStorable, rows_of}
-use Rattle.run_app.specs.Laws.{AnswersJoin, MayGoOn, ResumesAreTheRest, RunsMayGoOn, moved}
+use Rattle.run_app.specs.Laws.{AnswersJoin, MayGoOn, ResumesAreTheRest, RowsDecideAnswers, RunsMayGoOn, moved}
 use Rattle.run_app.specs.Lines.{lines_of}
 use Rattle.run_app.specs.Machine.{Standing}
 use Rattle.run_app.specs.Outcome.{answer_from}
@@ -60,10 +60,11 @@ StoppedRunsGoOn form =
     → IsContinued form first input text left
 
 -- What holds of runs that go on: a stopped and a resumed one print what one run prints; from wherever
--- lines led, a run writes the rest, and its answers are those of one run; and wherever lines lead, a
--- run may go on.
+-- lines led, a run writes the rest, and its answers are those of one run; wherever lines lead, a run
+-- may go on; and states of the same rows answer alike.
 pub record RunsGoOn (form : Form) : Type 0 where
   pub stopped : StoppedRunsGoOn form
   pub rest : ResumesAreTheRest form
   pub joined : AnswersJoin form
   pub onward : RunsMayGoOn form
+  pub alike : RowsDecideAnswers form

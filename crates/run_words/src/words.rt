@@ -296,7 +296,10 @@ fn command_or_usage(found: Option<Command>) -> Result<Command, WordsFault>
     ensures usage { IfErr result (λ fault. fault ≡ WordsFault.Usage) }
     ensures none { OnErr result (found ≡ None) }
 {
-    found.ok_or(WordsFault::Usage)
+    match found {
+        Some(command) => Ok(command),
+        None => Err(WordsFault::Usage),
+    }
 }
 
 /// What the words ask for: `replay`; `resume`; `query` with `supply`, `pool` or `validators`; `query` with `account`,

@@ -25,7 +25,7 @@ use Rattle.law_records.proofs.RingLaws.{kept_signings, signings_keep, signings_t
 use Rattle.store_loading.specs.Loaded.{kept_in}
 
 -- the rewards of a sound state stand for it
-rewards_keep : (p : State) → IsSound p → KeepsRewards (kept_rewards (shared_of (shared_in p))) (shared_in p).rewards
+pub rewards_keep : (p : State) → IsSound p → KeepsRewards (kept_rewards (shared_of (shared_in p))) (shared_in p).rewards
 rewards_keep p s = records_keep p.view.ctx.height (shared_in p) s.rewards (starts_there p.view.ctx.height p.mine.staked (shared_in p) s.staked s.stands)
 
 -- The records of a sound state, as modules keep them, stand for it, where no facts are left.

@@ -298,8 +298,8 @@ quiet_fault fault.Unsound P p = p
 pub empty_fault : (rows rows' : Option (List Pair)) (honest' : Type 0) (e : RestoreFault) → e ≡ fault.Empty → AreLoaded rows rows' honest' (λ now. now ≡ []) → IsUnrestored rows rows' honest' e
 empty_fault rows rows' honest' e is h = subst (IsUnrestored rows rows' honest') (sym is) h
 
-pub empty_of_nothing : {X : Type 0} (e : RestoreFault) → e ≡ fault.Empty → IsOfNothing (failed {X = X} e)
-empty_of_nothing {X} e is = subst (λ (x : RestoreFault). IsOfNothing (failed {X = X} x)) (sym is) tt
+pub empty_of_nothing : (e : RestoreFault) → e ≡ fault.Empty → IsOfNothing (failed {X = ⊤} e)
+empty_of_nothing e is = subst (λ (x : RestoreFault). IsOfNothing (failed {X = ⊤} x)) (sym is) tt
 
 pub empty_unjudged : (e : RestoreFault) → e ≡ fault.Empty → e ≢ fault.Unsound
 empty_unjudged e is bad = absurd cc

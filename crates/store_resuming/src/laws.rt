@@ -2,6 +2,7 @@
 //!
 //! Each law is the contract of a function that does nothing.
 
+ghost use Rattle.store_resuming.specs.Deciding.{RowsDecideAnswers};
 ghost use Rattle.store_resuming.specs.Kept.{RecordsAreAll, RecordsAreKept, RowsDecide};
 ghost use Rattle.store_resuming.specs.Restored.{FormatsTellTheSame};
 
@@ -23,4 +24,10 @@ pub fn rows_decide_what_is_kept()
 /// States that have the same rows in one format have the same in the other.
 pub fn formats_tell_the_same()
     ensures { FormatsTellTheSame }
+{}
+
+/// The rows of a store decide all later answers: blocks from two states of the same rows report the same and end at the same fault,
+/// in states of the same items and the same report.
+pub fn rows_decide_answers()
+    ensures { RowsDecideAnswers }
 {}

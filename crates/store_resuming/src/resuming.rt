@@ -76,7 +76,10 @@ fn some_records(found: Option<PlainRecords>) -> Result<PlainRecords, ChainFault>
     ensures fault { IfErr result (λ fault. fault ≡ ChainFault.BadItems) }
     ensures none { OnErr result (found ≡ None) }
 {
-    found.ok_or(ChainFault::BadItems)
+    match found {
+        Some(records) => Ok(records),
+        None => Err(ChainFault::BadItems),
+    }
 }
 
 /// The chain of which these are the items, in any order, settled: it stands for each sound state that has them.

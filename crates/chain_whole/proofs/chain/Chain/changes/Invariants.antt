@@ -1,4 +1,4 @@
 use Rattle.chain_whole.proofs.chain.Chain.changes.Given as goal
 
 abbrev pub ghosts-changes_of : goal.ghosts-changes_of
-ghosts-changes_of a = record { name = a.blank.name; parts = a.blank.parts }
+ghosts-changes_of g a = record { name = a.blank.name; parts = a.blank.parts }

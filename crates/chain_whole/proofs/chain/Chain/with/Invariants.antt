@@ -1,4 +1,4 @@
 use Rattle.chain_whole.proofs.chain.Chain.with.Given as goal
 
 abbrev pub ghosts-start : goal.ghosts-start
-ghosts-start a = record { name = a.blank.name; parts = a.blank.parts }
+ghosts-start g a = record { name = a.blank.name; parts = a.blank.parts }
