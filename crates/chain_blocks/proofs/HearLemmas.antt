@@ -136,9 +136,9 @@ module _ {E P : Type 0} (heard : E → P) (hears : P → Hook → View → P) (l
         (ap (voted (core_slashes (heard_shared hears).told plain_slash) t w.hooks.1) (same_start s.0.keeps) ∙ voted_carried (λ (x : Shared × P). x) [] (shared_told hears) (heard_shared hears).told (shared_heard hears) t w.hooks.1 (beside_window w)) told))
       where
         by : (r : Result (⊤ × Window × World Stakes (Shared × P)) Over) → VoteAnswers (carried_ok (core_with (λ (x : Shared × P). x) []) r) stands (stakes_kept last.stakes) (shared_hold heard last) (ground_of last) (Ok tt)
-            → HeardAs hears {D = HookFault} (r >>= λ x. Ok (with_window x.1 x.2)) (Ok tt) (heard (listener_of last))
+            → HeardAs hears {A = ⊤} {D = HookFault} (r >>= λ x. Ok (with_window x.1 x.2)) (Ok tt) (heard (listener_of last))
         by (Ok x) k = k.2.1
-        by (Err over) k = tt
+        by (Err why) k = tt
 
     pub evidence_hears : (e : Evidence) (done : Bool) → Hears heard (AreBegun []) new w → Leads (AreBegun []) (evidence_step e (unheard w)) (kept_of last) (Ok tt)
         → Handles (equivocation_handled (core_slashes (heard_shared hears).told plain_slash) kept_bans e new.hooks.second.kept starts_shared) last.hooks.second.kept (stakes_kept last.stakes) (shared_hold heard last) (ground_of last) (Ok done)
@@ -154,9 +154,9 @@ module _ {E P : Type 0} (heard : E → P) (hears : P → Hook → View → P) (l
         AsPlain : Result (Bool × Window × World Stakes (Shared × P)) Over → Type 0
         AsPlain r = AsRuled r (Ok done) (λ due d. KeepsSignings new.ground.ctx.params.signed_blocks_window last.hooks.second.kept due.1 × (stakes_kept last.stakes ≡ due.2.mine) × shared_hold heard last due.2.hooks × (ground_of last ≡ due.2.view)) WantsMemory ExceedsAs
 
-        by : (r : Result (Bool × Window × World Stakes (Shared × P)) Over) → AsPlain (carried_ok (core_with (λ (x : Shared × P). x) []) r) → HeardAs hears {D = HookFault} (r >>= λ x. Ok (with_window x.1 x.2)) (Ok tt) (heard (listener_of last))
+        by : (r : Result (Bool × Window × World Stakes (Shared × P)) Over) → AsPlain (carried_ok (core_with (λ (x : Shared × P). x) []) r) → HeardAs hears {A = ⊤} {D = HookFault} (r >>= λ x. Ok (with_window x.1 x.2)) (Ok tt) (heard (listener_of last))
         by (Ok x) k = k.2.1
-        by (Err over) k = tt
+        by (Err why) k = tt
 
 -- ---- one item after another
 
@@ -201,7 +201,7 @@ module _ {E P : Type 0} (heard : E → P) (hears : P → Hook → View → P) wh
   end_hears m0 m1 m2 m3 m4 (Ok a) one two three stays four stays2 w s =
       after_both heard StandsWhole StandsWhole m1 m4 (set_heard hears w) (λ w1. maturing_heard hears w1 >>= λ w2. silently unbondings_step w2 >>= λ w3. silently redelegations_step w3) (one w s) (λ u h.
       after_both heard StandsWhole StandsWhole m2 m4 (maturing_heard hears u) (λ w2. silently unbondings_step w2 >>= λ w3. silently redelegations_step w3) (two u h) (λ v k.
-      after_both heard StandsWhole StandsWhole m3 m4 (silently unbondings_step v) (λ w3. silently redelegations_step w3) (after_silence heard StandsWhole m2 m3 unbondings_step v WantsMemory ExceedsAs tt (three (unheard v) k.0) stays k.1) (λ x l.
+      after_both heard StandsWhole StandsWhole m3 m4 (silently unbondings_step v) (λ w3. silently redelegations_step w3) (after_silence heard {A = ⊤} StandsWhole m2 m3 unbondings_step v WantsMemory ExceedsAs tt (three (unheard v) k.0) stays k.1) (λ x l.
       after_silence heard StandsWhole m3 m4 redelegations_step x WantsMemory ExceedsAs a (four (unheard x) l.0) stays2 l.1)))
   end_hears m0 m1 m2 m3 m4 (Err fault) one two three stays four stays2 w s = tt
 

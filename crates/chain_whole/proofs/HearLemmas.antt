@@ -86,7 +86,7 @@ module _ {E P : Type 0} (heard : E → P) (hears : P → Hook → View → P) (o
       (subst (λ (u : View). Leaves (stored (heard_tell hears).told (entrant v u) (over old.stakes.staking.staked (held heard hears old new w) (ground_of old))) new.stakes.staking.staked (heard_hold heard new.hooks) (ground_of new) (Ok tt)) (sym k.0.view)
       (told (held heard hears old new w) (held_heard heard hears old new w k.0 k.1)))))
     where
-      by : (r : Result (World Staked (Overheard P)) Over) → HeardAs hears {D = HookFault} (r >>= λ d. Ok (with_staked (with_staked c s).mine d)) (Ok tt) (heard (listener_of new)) → IsHeard (stopping Overflow r)
+      by : (r : Result (World Staked (Overheard P)) Over) → HeardAs hears {A = ⊤} {D = HookFault} (r >>= λ d. Ok (with_staked (with_staked c s).mine d)) (Ok tt) (heard (listener_of new)) → IsHeard (stopping Overflow r)
       by (Ok d) h = h
       by (Err over) h = tt
 
@@ -116,7 +116,7 @@ module _ {E P : Type 0} (heard : E → P) (hears : P → Hook → View → P) (o
       (delegated_carried (heard_as hears old.ground.ctx.params.signed_blocks_window) [] (overheard_told hears) (heard_tell hears).told (told_heard hears old.ground.ctx.params.signed_blocks_window) x d.delegator d.amount (pool Unbonded) (silent_log hears w)) (Ok issued)
       (told (held heard hears old new w) (held_heard heard hears old new w k.0 k.1)))))
     where
-      by : (r : Result (ℕ × World Staked (Overheard P)) Refusal) → HeardAs hears {D = MessageFault} (r >>= λ z. Ok (with_staked (with_staked c s).mine z.1)) (Ok issued) (heard (listener_of new)) → IsHeard (r >>= λ z. Ok z.1)
+      by : (r : Result (ℕ × World Staked (Overheard P)) Refusal) → HeardAs hears {A = ℕ} {D = MessageFault} (r >>= λ z. Ok (with_staked (with_staked c s).mine z.1)) (Ok issued) (heard (listener_of new)) → IsHeard (r >>= λ z. Ok z.1)
       by (Ok z) h = h
       by (Err why) h = tt
 
