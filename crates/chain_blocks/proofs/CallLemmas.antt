@@ -4,7 +4,7 @@ use Rattle.std.proofs.lemmas.List.Elements.{All-from_recursion, recursion_from_A
 use Rattle.base_roles.specs.declared.entities.{RedelegationEntry.RedelegationEntry, UnbondingEntry.UnbondingEntry}
 use Rattle.base_roles.specs.{declared.{entities.Validator.Validator, messages.Vote.Vote}, Ground.CanBeUndone}
 use Rattle.base_roles.specs.Staked.{bonded_tokens, other_tokens, validator_at, validator_by_cons}
-use Rattle.base_roles.specs.{StakeChanges.HoldsStake, World.View}
+use Rattle.base_roles.specs.{StakeChanges.HoldsStake, World.{View, Hook}}
 use Rattle.rule_modules.{proofs.SoundLemmas.{IsSoundAt, to_points}, specs.Chain.{State, Stakes, shared_in, window_in}}
 use Rattle.rule_modules.specs.{StepLaws.{CountsBelow, IsPower}, Owed.entry_balances, Purses.Purses, Sound.IsSound}
 use Rattle.law_soundness.proofs.{Allocating.found_by_cons, Lists.weaker}
@@ -20,8 +20,9 @@ use Rattle.mod_signing.proofs.StandLemmas.{plain_at}
 use Rattle.mod_signing.specs.Kept as window
 use Rattle.mod_distribution.specs.Kept as distr
 use Rattle.mod_distribution.specs.{Stands.KeepsShared, Tells.distribution_tells}
-use Rattle.chain_modules.specs.declared.modules.Modules.{Modules}
+use Rattle.chain_modules.specs.{declared.modules.Modules.Modules, Heard.heard_shared}
 use Rattle.chain_modules.specs.{Kept.{KeptState, Keeps, StakesSeen, ground_of, kept_of, stakes_kept}, Marks.GoOn}
+use Rattle.chain_modules.proofs.HeardLemmas.{shared_stands}
 use Rattle.chain_modules.proofs.SceneLemmas.{all_held, core_sound, stand_shared, window_kept}
 use Rattle.chain_transactions.proofs.GoLemmas.{all_on}
 use Rattle.chain_blocks.{specs.Begun.AreCast, proofs.CheckLemmas.power_alone}
@@ -113,3 +114,9 @@ module _ {E : Type 0} (m : Modules E) (p : State) (k : Keeps (kept_of m) p) (s :
     most = subst (λ (v : View). v.ctx.params.signed_blocks_window ≤ 100_000) k.view s.ground.params.signed_blocks_window_most;
     kept = window_kept m p k s;
   }
+
+-- the same with a listener
+pub punishing_heard : {E P : Type 0} (heard : E → P) (hears : P → Hook → View → P) (m : Modules E) (p : State) → Keeps (kept_of m) p → IsSound p
+    → IsScene (heard_shared hears) (λ d. KeepsShared m.hooks.first.hooks.kept d.0 × (heard m.hooks.first.listener ≡ d.1)) (ground_of m) (IsSoundCore unbonding.AreSoundLists redelegate.AreSoundLists (stakes_kept m.stakes)) m.stakes.staking.staked
+    (entry_balances m.stakes.unbondings.lists)
+punishing_heard heard hears m p k s = let scene = punishing_scene m p k s in record { sound = scene.sound; stand = shared_stands hears heard m.hooks (ground_of m) _ scene.stand; accounts = scene.accounts }

@@ -7,5 +7,6 @@ pub mod CheckLemmas
 pub mod EndLemmas
 pub mod EvidenceLemmas
 pub mod LeadLemmas
+pub mod HearLemmas
 mod LoopLemmas
 pub mod OpenLemmas

@@ -1,5 +1,5 @@
 -- What the parts of a block, and blocks, answer and leave.
-use Rattle.std.specs.Prelude.{◌≡◌, Result, Ok, Err, ⊤}
+use Rattle.std.specs.Prelude.{◌≡◌, ℕ, Result, Ok, Err, ⊤}
 use Rattle.base_decimals.specs.declared.over.Over.{Over}
 use Rattle.base_roles.specs.declared.faults.HookFault.{HookFault}
 use Rattle.base_roles.specs.declared.faults.HookFault.TheVariants as hook
@@ -7,12 +7,14 @@ use Rattle.base_roles.specs.declared.faults.RecordFault.{RecordFault}
 use Rattle.base_roles.specs.declared.faults.RecordFault.TheVariants as kept
 use Rattle.base_roles.specs.Answers.{AsRuled, WantsMemory, ExceedsAs}
 use Rattle.base_roles.specs.Flow.{◌>>=◌, stopping}
+use Rattle.base_roles.specs.World.{View, Hook}
 use Rattle.base_messages.specs.declared.block.Block.{Block}
 use Rattle.base_messages.specs.declared.faults.BlockFault.{BlockFault}
 use Rattle.base_messages.specs.declared.faults.BlockFault.TheVariants as block
 use Rattle.base_messages.specs.declared.report.BlockReport.{BlockReport}
 use Rattle.rule_modules.specs.Chain.{State, begin_block, end_block}
 use Rattle.rule_machine.specs.GenesisState.{without_facts}
+use Rattle.rule_machine.specs.Listening.{Hearing, beginning_heard, ending_heard, heard_in, hearing, part_heard, txs_heard, unheard}
 use Rattle.rule_machine.specs.Machine.{Step, step, txs_applied}
 use Rattle.chain_modules.specs.Kept.{KeptState, StandsFor}
 
@@ -54,3 +56,10 @@ parts_stepped b w = do
     report = record { height = b.height; time = b.time; begun = begun.view.facts; txs = txs.reports; ended = ended.view.facts };
     state = without_facts ended;
   })
+
+-- The same with what a listener hears of it.
+abbrev pub parts_heard : {P : Type 0} → (P → Hook → View → P) → (P → ℕ → P) → (P → P) → Block → Hearing P → Result (Hearing P) Over
+parts_heard hears parted ended b w = do
+  begun ← beginning_heard hears b.votes b.evidence w
+  last ← ending_heard hears (txs_heard hears parted ended b.txs (part_heard hears parted ended begun))
+  Ok (hearing (ended (heard_in last)) (without_facts (unheard last)))

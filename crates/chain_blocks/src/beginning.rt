@@ -3,6 +3,8 @@
 ghost use Rattle.std.specs.Prelude.{◌≡◌, [], OnOk};
 ghost use Rattle.base_roles.specs.Flow.{each};
 ghost use Rattle.rule_modules.specs.Chain.{State, allocation_step, vote_step, evidence_step, begin_block};
+ghost use Rattle.rule_machine.specs.Listening.{Hearing, beginning_heard, evidence_heard, vote_heard};
+ghost use Rattle.chain_modules.specs.Heard.{Hears, HearsAfter};
 ghost use Rattle.chain_modules.specs.Kept.{StandsWhole, kept_of, AreSteady, listener_of};
 ghost use Rattle.chain_modules.specs.Marks.{GoOn};
 ghost use Rattle.chain_blocks.specs.Answers.{Leads};
@@ -30,6 +32,9 @@ pub(crate) fn begin<E: Extra, L: Ledger>(
     ensures leads { (p : State) → HasBegun block.now (kept_of modules.old) p
         → Leads StandsWhole (begin_block block.now.votes block.now.evidence p)
         (kept_of modules.new) result }
+    ensures heard { (w : Hearing E.Heard) → Hears E.heard (HasBegun block.now) modules.old w
+        → OnOk result (HearsAfter E.heard StandsWhole
+        (beginning_heard E.hears block.now.votes block.now.evidence w) modules.new) }
     ensures steady { OnOk result (AreSteady modules.new) }
 
     // Whatever the answer.
@@ -57,8 +62,7 @@ fn allocate<E: Extra, L: Ledger>(
 
     // Whatever the answer.
     ensures go_on { GoOn modules.old modules.new }
-    ensures listener { E.Records.marks (listener_of modules.new)
-        ≡ E.Records.marks (listener_of modules.old) }
+    ensures listener { listener_of modules.new ≡ listener_of modules.old }
 {
     modules
         .hooks
@@ -77,6 +81,9 @@ fn count_votes<E: Extra, L: Ledger>(
     requires votes { MayVote votes.now modules.old }
     ensures leads { (p : State) → AreBegun votes.now (kept_of modules.old) p
         → Leads (AreBegun []) (each vote_step votes.now p) (kept_of modules.new) result }
+    ensures heard { (w : Hearing E.Heard) → Hears E.heard (AreBegun votes.now) modules.old w
+        → OnOk result (HearsAfter E.heard (AreBegun [])
+        (each (vote_heard E.hears) votes.now w) modules.new) }
     ensures may { OnOk result (MayVote [] modules.new) }
 
     // Whatever the answer.
@@ -107,6 +114,9 @@ fn handle_evidence<E: Extra, L: Ledger>(
     requires evidence { MayAccuse evidence.now modules.old }
     ensures leads { (p : State) → AreBegun [] (kept_of modules.old) p
         → Leads (AreBegun []) (each evidence_step evidence.now p) (kept_of modules.new) result }
+    ensures heard { (w : Hearing E.Heard) → Hears E.heard (AreBegun []) modules.old w
+        → OnOk result (HearsAfter E.heard (AreBegun [])
+        (each (evidence_heard E.hears) evidence.now w) modules.new) }
     ensures may { OnOk result (MayVote [] modules.new) }
 
     // Whatever the answer.

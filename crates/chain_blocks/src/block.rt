@@ -1,10 +1,12 @@
 //! A block, applied whole or not at all.
 
-ghost use Rattle.std.specs.Prelude.{◌≡◌, ◌<◌, ◌^◌, [], OnOk, OnErr};
+ghost use Rattle.std.specs.Prelude.{◌≡◌, ◌<◌, ◌^◌, [], length, OnOk, OnErr};
 ghost use Rattle.rule_modules.specs.Chain.{State};
-ghost use Rattle.chain_modules.specs.Kept.{StandsFor, kept_of, AreSteady, listener_of};
+ghost use Rattle.rule_machine.specs.Listening.{Hearing, block_heard};
+ghost use Rattle.chain_modules.specs.Heard.{Hears, HearsAfter};
+ghost use Rattle.chain_modules.specs.Kept.{StandsFor, StandsWhole, kept_of, AreSteady, listener_of};
 ghost use Rattle.chain_modules.specs.Marks.{settled_of, behind_of, AreAtRest};
-ghost use Rattle.chain_blocks.specs.Answers.{Applies, AnswersStep, parts_stepped};
+ghost use Rattle.chain_blocks.specs.Answers.{Applies, AnswersStep, parts_heard, parts_stepped};
 ghost use Rattle.chain_blocks.specs.Begun.{HasBegun, MayBegin};
 
 use crate::beginning::begin;
@@ -41,7 +43,12 @@ pub fn apply<E: Extra, L: Ledger>(
     requires rest { AreAtRest modules.old }
     ensures applies { (p : State) → StandsFor (kept_of modules.old) p
         → Applies block.now p (kept_of modules.new) result }
+    ensures heard { (w : Hearing E.Heard) → Hears E.heard StandsFor modules.old w
+        → OnOk result (HearsAfter E.heard StandsFor
+        (block_heard E.hears E.parted E.ended block.now w) modules.new) }
     ensures unchanged { OnErr result (kept_of modules.new ≡ kept_of modules.old) }
+    ensures unheard { OnErr result (E.heard (listener_of modules.new)
+        ≡ E.heard (listener_of modules.old)) }
 
     // Whatever the answer.
     ensures rest { AreAtRest modules.new }
@@ -84,6 +91,9 @@ fn apply_parts<E: Extra, L: Ledger>(
     requires none { modules.old.ground.facts ≡ [] }
     ensures steps { (p : State) → HasBegun block.now (kept_of modules.old) p
         → AnswersStep (parts_stepped block.now p) (kept_of modules.new) result }
+    ensures heard { (w : Hearing E.Heard) → Hears E.heard (HasBegun block.now) modules.old w
+        → OnOk result (HearsAfter E.heard StandsWhole
+        (parts_heard E.hears E.parted E.ended block.now w) modules.new) }
     ensures steady { OnOk result (AreSteady modules.new) }
     ensures none { OnOk result (modules.new.ground.facts ≡ []) }
 
@@ -122,6 +132,8 @@ fn told<E: Extra>(alloc: Global, modules: &mut Modules<E>) -> Facts
     ensures stakes { modules.new.stakes ≡ modules.old.stakes }
     ensures shared { modules.new.hooks.first.hooks ≡ modules.old.hooks.first.hooks }
     ensures signings { modules.new.hooks.second ≡ modules.old.hooks.second }
+    ensures heard { E.heard (listener_of modules.new) ≡ E.parted (E.heard (listener_of modules.old))
+        (length modules.old.ground.facts) }
     ensures listener { E.Records.marks (listener_of modules.new)
         ≡ E.Records.marks (listener_of modules.old) }
 {
@@ -139,6 +151,8 @@ fn told_last<E: Extra>(alloc: Global, modules: &mut Modules<E>) -> Facts
     ensures stakes { modules.new.stakes ≡ modules.old.stakes }
     ensures shared { modules.new.hooks.first.hooks ≡ modules.old.hooks.first.hooks }
     ensures signings { modules.new.hooks.second ≡ modules.old.hooks.second }
+    ensures heard { E.heard (listener_of modules.new)
+        ≡ E.ended (E.heard (listener_of modules.old)) }
     ensures listener { E.Records.marks (listener_of modules.new)
         ≡ E.Records.marks (listener_of modules.old) }
 {

@@ -2,6 +2,8 @@
 
 ghost use Rattle.std.specs.Prelude.{◌≡◌, OnOk};
 ghost use Rattle.rule_modules.specs.Chain.{State, set_step, maturing_step, unbondings_step, redelegations_step, end_block};
+ghost use Rattle.rule_machine.specs.Listening.{Hearing, ending_heard, maturing_heard, set_heard};
+ghost use Rattle.chain_modules.specs.Heard.{Hears, HearsAfter};
 ghost use Rattle.chain_modules.specs.Kept.{Keeps, StandsWhole, kept_of, AreSteady, IsStakeScene, listener_of};
 ghost use Rattle.chain_modules.specs.Marks.{GoOn};
 ghost use Rattle.chain_blocks.specs.Answers.{Leads};
@@ -22,6 +24,9 @@ pub(crate) fn end<E: Extra, L: Ledger>(
     requires steady { AreSteady modules.old }
     ensures leads { (p : State) → StandsWhole (kept_of modules.old) p
         → Leads StandsWhole (end_block p) (kept_of modules.new) result }
+    ensures heard { (w : Hearing E.Heard) → Hears E.heard StandsWhole modules.old w
+        → OnOk result (HearsAfter E.heard StandsWhole
+        (ending_heard E.hears w) modules.new) }
     ensures steady { OnOk result (AreSteady modules.new) }
 
     // Whatever the answer.
@@ -47,6 +52,9 @@ pub fn update_set<E: Extra, L: Ledger>(
     requires scene { IsStakeScene modules.old }
     ensures leads { (p : State) → Keeps (kept_of modules.old) p
         → Leads Keeps (set_step p) (kept_of modules.new) result }
+    ensures heard { (w : Hearing E.Heard) → Hears E.heard Keeps modules.old w
+        → OnOk result (HearsAfter E.heard Keeps
+        (set_heard E.hears w) modules.new) }
 
     // Whatever the answer.
     ensures go_on { GoOn modules.old modules.new }
@@ -71,6 +79,9 @@ fn make_set<E: Extra, L: Ledger>(
     requires steady { AreSteady modules.old }
     ensures leads { (p : State) → StandsWhole (kept_of modules.old) p
         → Leads StandsWhole (set_step p) (kept_of modules.new) result }
+    ensures heard { (w : Hearing E.Heard) → Hears E.heard StandsWhole modules.old w
+        → OnOk result (HearsAfter E.heard StandsWhole
+        (set_heard E.hears w) modules.new) }
     ensures steady { OnOk result (AreSteady modules.new) }
 
     // Whatever the answer.
@@ -90,6 +101,9 @@ fn mature<E: Extra, L: Ledger>(
     requires steady { AreSteady modules.old }
     ensures leads { (p : State) → StandsWhole (kept_of modules.old) p
         → Leads StandsWhole (maturing_step p) (kept_of modules.new) result }
+    ensures heard { (w : Hearing E.Heard) → Hears E.heard StandsWhole modules.old w
+        → OnOk result (HearsAfter E.heard StandsWhole
+        (maturing_heard E.hears w) modules.new) }
     ensures steady { OnOk result (AreSteady modules.new) }
 
     // Whatever the answer.
@@ -119,8 +133,7 @@ fn pay_unbondings<E: Extra, L: Ledger>(
 
     // Whatever the answer.
     ensures go_on { GoOn modules.old modules.new }
-    ensures listener { E.Records.marks (listener_of modules.new)
-        ≡ E.Records.marks (listener_of modules.old) }
+    ensures listener { listener_of modules.new ≡ listener_of modules.old }
 {
     modules
         .stakes
@@ -141,8 +154,7 @@ fn end_redelegations<E: Extra, L: Ledger>(
 
     // Whatever the answer.
     ensures go_on { GoOn modules.old modules.new }
-    ensures listener { E.Records.marks (listener_of modules.new)
-        ≡ E.Records.marks (listener_of modules.old) }
+    ensures listener { listener_of modules.new ≡ listener_of modules.old }
 {
     let now = modules.ground.ctx.time;
     modules.stakes.redelegations.complete(alloc, now, steps)

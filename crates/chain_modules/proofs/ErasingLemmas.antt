@@ -34,7 +34,7 @@ each_over f step on h (x ∷ xs) s = then_carried f f (step x s) (on x (f s)) _ 
 
 module _ {P : Type 0} where
   -- a step that calls no hook
-  silent_unheard : {E : Type 0} (step : State → Result State E) (w : Hearing P) → step (unheard w) ≡ carried_ok unheard (silently step w)
+  pub silent_unheard : {E : Type 0} (step : State → Result State E) (w : Hearing P) → step (unheard w) ≡ carried_ok unheard (silently step w)
   silent_unheard {E = E} step w = by (step (unheard w))
     where
       by : (r : Result State E) → r ≡ carried_ok unheard (r >>= λ u. Ok (hearing (heard_in w) u))
@@ -43,7 +43,7 @@ module _ {P : Type 0} where
 
 module _ {P : Type 0} (hears : P → Hook → View → P) where
   -- what hooks hold without what was heard, and what distribution holds
-  abbrev apart : Overheard P → Hooks
+  abbrev pub apart : Overheard P → Hooks
   apart s = (s.0.0, s.1)
 
   abbrev first : Shared × P → Shared
@@ -71,7 +71,7 @@ module _ {P : Type 0} (hears : P → Hook → View → P) where
 
   -- ---- messages
 
-  reward_unheard : (who operator : List ℕ) (w : Hearing P) → withdraw_reward who operator (unheard w) ≡ carried_ok unheard (reward_heard hears who operator w)
+  pub reward_unheard : (who operator : List ℕ) (w : Hearing P) → withdraw_reward who operator (unheard w) ≡ carried_ok unheard (reward_heard hears who operator w)
   reward_unheard who operator w = by (withdraw_reward who operator (unheard w))
     where
       by : (r : Result State Refusal)
@@ -79,27 +79,27 @@ module _ {P : Type 0} (hears : P → Hook → View → P) where
       by (Ok u) = refl
       by (Err why) = refl
 
-  creation_unheard : (m : CreateValidator) (w : Hearing P) → create_validator m (unheard w) ≡ carried_ok unheard (creation_heard hears m w)
+  pub creation_unheard : (m : CreateValidator) (w : Hearing P) → create_validator m (unheard w) ≡ carried_ok unheard (creation_heard hears m w)
   creation_unheard m w =
       then_carried (carried_by apart []) unheard (created (overheard_told hears) m (staked_in w)) (created chain_told m (staked_in (unheard w))) _ _
       (created_carried apart [] (overheard_told hears) chain_told told_unheard m (staked_in w)) (λ p. refl)
 
-  delegation_unheard : (who operator : List ℕ) (coin : Coin) (w : Hearing P) → delegate who operator coin (unheard w) ≡ carried_ok unheard (delegation_heard hears who operator coin w)
+  pub delegation_unheard : (who operator : List ℕ) (coin : Coin) (w : Hearing P) → delegate who operator coin (unheard w) ≡ carried_ok unheard (delegation_heard hears who operator coin w)
   delegation_unheard who operator coin w =
       then_carried (carried_by apart []) unheard (delegated_by (overheard_told hears) who operator coin (staked_in w)) (delegated_by chain_told who operator coin (staked_in (unheard w))) _ _
       (delegated_by_carried apart [] (overheard_told hears) chain_told told_unheard who operator coin (staked_in w)) (λ p. refl)
 
-  undelegation_unheard : (who operator : List ℕ) (coin : Coin) (w : Hearing P) → undelegate who operator coin (unheard w) ≡ carried_ok unheard (undelegation_heard hears who operator coin w)
+  pub undelegation_unheard : (who operator : List ℕ) (coin : Coin) (w : Hearing P) → undelegate who operator coin (unheard w) ≡ carried_ok unheard (undelegation_heard hears who operator coin w)
   undelegation_unheard who operator coin w =
       then_carried (carried_with apart []) unheard (undelegated (overheard_told hears) who operator coin w.mine.unbondings (staked_in w)) (undelegated chain_told who operator coin w.mine.unbondings (staked_in (unheard w))) _ _
       (undelegated_carried apart [] (overheard_told hears) chain_told told_unheard who operator coin w.mine.unbondings (staked_in w)) (λ p. refl)
 
-  redelegation_unheard : (who source target : List ℕ) (coin : Coin) (w : Hearing P) → begin_redelegate who source target coin (unheard w) ≡ carried_ok unheard (redelegation_heard hears who source target coin w)
+  pub redelegation_unheard : (who source target : List ℕ) (coin : Coin) (w : Hearing P) → begin_redelegate who source target coin (unheard w) ≡ carried_ok unheard (redelegation_heard hears who source target coin w)
   redelegation_unheard who source target coin w =
       then_carried (carried_with apart []) unheard (redelegated (overheard_told hears) who source target coin w.mine.redelegations (staked_in w)) (redelegated chain_told who source target coin w.mine.redelegations (staked_in (unheard w))) _ _
       (redelegated_carried apart [] (overheard_told hears) chain_told told_unheard who source target coin w.mine.redelegations (staked_in w)) (λ p. refl)
 
-  cancellation_unheard : (who operator : List ℕ) (coin : Coin) (height : ℕ) (w : Hearing P) → cancel_unbonding who operator coin height (unheard w) ≡ carried_ok unheard (cancellation_heard hears who operator coin height w)
+  pub cancellation_unheard : (who operator : List ℕ) (coin : Coin) (height : ℕ) (w : Hearing P) → cancel_unbonding who operator coin height (unheard w) ≡ carried_ok unheard (cancellation_heard hears who operator coin height w)
   cancellation_unheard who operator coin height w =
       then_carried (carried_with apart []) unheard (cancelled (overheard_told hears) who operator coin height w.mine.unbondings (staked_in w)) (cancelled chain_told who operator coin height w.mine.unbondings (staked_in (unheard w))) _ _
       (cancelled_carried apart [] (overheard_told hears) chain_told told_unheard who operator coin height w.mine.unbondings (staked_in w)) (λ p. refl)
@@ -123,13 +123,13 @@ module _ {P : Type 0} (hears : P → Hook → View → P) where
   -- ---- transactions
 
   -- messages that stand together, or one of which is refused, with a listener and without it
-  abbrev AreUnheard : Result State (ℕ × Refusal) → Result (Hearing P) Refusal → Type 0
+  abbrev pub AreUnheard : Result State (ℕ × Refusal) → Result (Hearing P) Refusal → Type 0
   AreUnheard (Ok u) (Ok w) = u ≡ unheard w
   AreUnheard (Ok u) (Err why) = ⊥
   AreUnheard (Err stop) (Ok w) = ⊥
   AreUnheard (Err stop) (Err why) = ⊤
 
-  messages_unheard : (place : ℕ) (ms : List Msg) (w : Hearing P) → AreUnheard (effects_of place (map effect_of ms) (unheard w)) (messages_heard hears ms w)
+  pub messages_unheard : (place : ℕ) (ms : List Msg) (w : Hearing P) → AreUnheard (effects_of place (map effect_of ms) (unheard w)) (messages_heard hears ms w)
   messages_unheard place [] w = refl
   messages_unheard place (m ∷ ms) w = by (effect_of m (unheard w)) (effect_heard hears m w) (effect_unheard m w) (λ u. messages_unheard (place + 1) ms u)
     where
@@ -155,16 +155,16 @@ module _ {P : Type 0} (hears : P → Hook → View → P) where
 
   -- ---- the beginning and the end of a block
 
-  vote_unheard : (t : Vote) (w : Hearing P) → vote_step t (unheard w) ≡ carried_ok unheard (vote_heard hears t w)
+  pub vote_unheard : (t : Vote) (w : Hearing P) → vote_step t (unheard w) ≡ carried_ok unheard (vote_heard hears t w)
   vote_unheard t w =
       then_carried (core_with first []) unheard (voted (core_slashes (shared_told hears) plain_slash) t w.hooks.1 (beside_window w)) (voted (core_slashes distribution_told plain_slash) t w.hooks.1 (carried_core first [] (beside_window w))) _ _
       (voted_carried first [] (shared_told hears) distribution_told shared_unheard t w.hooks.1 (beside_window w)) (λ p. refl)
 
-  evidence_unheard : (e : Evidence) (w : Hearing P) → evidence_step e (unheard w) ≡ carried_ok unheard (evidence_heard hears e w)
+  pub evidence_unheard : (e : Evidence) (w : Hearing P) → evidence_step e (unheard w) ≡ carried_ok unheard (evidence_heard hears e w)
   evidence_unheard e w =
       then_carried (core_with first []) unheard (equivocation_handled (core_slashes (shared_told hears) plain_slash) window_bans e w.hooks.1 (beside_window w))
       (equivocation_handled (core_slashes distribution_told plain_slash) window_bans e w.hooks.1 (carried_core first [] (beside_window w))) _ _
-      (equivocation_carried first [] (shared_told hears) distribution_told shared_unheard e w.hooks.1 (beside_window w)) (λ p. refl)
+      (equivocation_carried first [] (shared_told hears) distribution_told shared_unheard window_bans e w.hooks.1 (beside_window w)) (λ p. refl)
 
   beginning_unheard : (votes : List Vote) (evidence : List Evidence) (w : Hearing P) → begin_block votes evidence (unheard w) ≡ carried_ok unheard (beginning_heard hears votes evidence w)
   beginning_unheard votes evidence w =
@@ -172,11 +172,11 @@ module _ {P : Type 0} (hears : P → Hook → View → P) where
       then_carried unheard unheard (each (vote_heard hears) votes w1) (each vote_step votes (unheard w1)) _ _ (each_over unheard (vote_heard hears) vote_step vote_unheard votes w1) (λ w2.
       each_over unheard (evidence_heard hears) evidence_step evidence_unheard evidence w2))
 
-  set_unheard : (w : Hearing P) → set_step (unheard w) ≡ carried_ok unheard (set_heard hears w)
+  pub set_unheard : (w : Hearing P) → set_step (unheard w) ≡ carried_ok unheard (set_heard hears w)
   set_unheard w =
       then_carried (carried apart []) unheard (set_updated (overheard_told hears) (staked_in w)) (set_updated chain_told (staked_in (unheard w))) _ _ (set_carried apart [] (overheard_told hears) chain_told told_unheard (staked_in w)) (λ s. refl)
 
-  maturing_unheard : (w : Hearing P) → maturing_step (unheard w) ≡ carried_ok unheard (maturing_heard hears w)
+  pub maturing_unheard : (w : Hearing P) → maturing_step (unheard w) ≡ carried_ok unheard (maturing_heard hears w)
   maturing_unheard w =
       then_carried (carried apart []) unheard (validators_matured (overheard_told hears) (staked_in w)) (validators_matured chain_told (staked_in (unheard w))) _ _
       (matured_all_carried apart [] (overheard_told hears) chain_told told_unheard (staked_in w)) (λ s. refl)

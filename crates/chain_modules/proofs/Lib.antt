@@ -1,8 +1,10 @@
 pub mod CarryLemmas
 pub mod ErasingLemmas
+pub mod HeardLemmas
 pub mod HookLemmas
 pub mod ItemLemmas
 pub mod MarkLemmas
+pub mod OverheardLemmas
 pub mod SceneLemmas
 pub mod SlashCarryLemmas
 pub mod StandLemmas

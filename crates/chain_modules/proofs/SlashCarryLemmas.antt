@@ -10,7 +10,7 @@ use Rattle.base_roles.specs.declared.facts.Fact.TheVariants as fact
 use Rattle.base_roles.specs.Log as log
 use Rattle.rule_modules.specs.Chain.{Stakes}
 use Rattle.rule_modules.specs.EntrySlashes.{burned_at_target, entry_hit, is_hit, part_left, part_of, plain_following, redelegations_slashed, shares_hit, sources_slashed, targets_slashed, unbondings_slashed}
-use Rattle.rule_modules.specs.Evidence.{banned, equivocation_handled, evidence_weighed, forever, is_too_old, jailed_if_not, window_bans}
+use Rattle.rule_modules.specs.Evidence.{Bans, equivocation_handled, evidence_weighed, forever, is_too_old, jailed_if_not}
 use Rattle.rule_modules.specs.Redelegations.{RedelegationLists}
 use Rattle.rule_modules.specs.Slashing.{core_slashes, jail_lent, plain_slash, rest_slashed, slash_amount, slash_fraction, slash_told, slashed, slashed_at, staked_unbonds, validator_slashed}
 use Rattle.rule_modules.specs.{Unbonding.{shares_unbonded, unbonded_of}, Unbondings.UnbondingLists}
@@ -145,24 +145,26 @@ module _ {H G : Type 0} (f : H → G) (k : Log) where
 
     -- ---- evidence
 
-    jailed_carried : (o : Option Validator) (cons : List ℕ) (w : World Stakes H) → jailed_if_not (core_slashes tells plain_slash) window_bans o cons (carried_core w) ≡ carried_core (jailed_if_not (core_slashes told plain_slash) window_bans o cons w)
-    jailed_carried None cons w = refl
-    jailed_carried (Some v) cons w = by v.jailed
-      where
-        by : (b : Bool) → (if b then carried_core w else carried_core (jail_lent (core_slashes told plain_slash) cons w)) ≡ carried_core (if b then w else jail_lent (core_slashes told plain_slash) cons w)
-        by true = refl
-        by false = refl
+    -- with records that are lent, whichever they are
+    module _ {N : Type 0} (bans : Bans N) where
+      jailed_carried : (o : Option Validator) (cons : List ℕ) (w : World Stakes H) → jailed_if_not (core_slashes tells plain_slash) bans o cons (carried_core w) ≡ carried_core (jailed_if_not (core_slashes told plain_slash) bans o cons w)
+      jailed_carried None cons w = refl
+      jailed_carried (Some v) cons w = by v.jailed
+        where
+          by : (b : Bool) → (if b then carried_core w else carried_core (jail_lent (core_slashes told plain_slash) cons w)) ≡ carried_core (if b then w else jail_lent (core_slashes told plain_slash) cons w)
+          by true = refl
+          by false = refl
 
-    weighed_carried : (o : Option Validator) (t : Option Bool) (e : Evidence) (i : Window) (w : World Stakes H)
-        → evidence_weighed (core_slashes tells plain_slash) window_bans o t e i (carried_core w) ≡ carried_ok core_with (evidence_weighed (core_slashes told plain_slash) window_bans o t e i w)
-    weighed_carried None t e i w = refl
-    weighed_carried (Some v) None e i w = refl
-    weighed_carried (Some v) (Some t) e i w =
-        let factor = w.view.ctx.params.slash_fraction_double_sign in
-        chosen core_with (is_unbonded v.status || t || is_too_old w.view.ctx e) _ _ _ _ refl
-        (then_carried core_by core_with (slashed told plain_slash e.cons (e.height - 1) e.power factor w) (slashed tells plain_slash e.cons (e.height - 1) e.power factor (carried_core w)) _ _ (slashed_carried e.cons (e.height - 1) e.power factor w) (λ p.
-        ap (λ (x : World Stakes G). Ok (true, banned e.cons forever i, over_view (noted (fact.Tombstoned v.operator)) x)) (jailed_carried (validator_by_cons p.1.mine.staked e.cons) e.cons p.1)))
+      weighed_carried : (o : Option Validator) (t : Option Bool) (e : Evidence) (n : N) (w : World Stakes H)
+          → evidence_weighed (core_slashes tells plain_slash) bans o t e n (carried_core w) ≡ carried_ok core_with (evidence_weighed (core_slashes told plain_slash) bans o t e n w)
+      weighed_carried None t e n w = refl
+      weighed_carried (Some v) None e n w = refl
+      weighed_carried (Some v) (Some t) e n w =
+          let factor = w.view.ctx.params.slash_fraction_double_sign in
+          chosen core_with (is_unbonded v.status || t || is_too_old w.view.ctx e) _ _ _ _ refl
+          (then_carried core_by core_with (slashed told plain_slash e.cons (e.height - 1) e.power factor w) (slashed tells plain_slash e.cons (e.height - 1) e.power factor (carried_core w)) _ _ (slashed_carried e.cons (e.height - 1) e.power factor w) (λ p.
+          ap (λ (x : World Stakes G). Ok (true, bans.ban e.cons forever n, over_view (noted (fact.Tombstoned v.operator)) x)) (jailed_carried (validator_by_cons p.1.mine.staked e.cons) e.cons p.1)))
 
-    pub equivocation_carried : (e : Evidence) (i : Window) (w : World Stakes H)
-        → equivocation_handled (core_slashes tells plain_slash) window_bans e i (carried_core w) ≡ carried_ok core_with (equivocation_handled (core_slashes told plain_slash) window_bans e i w)
-    equivocation_carried e i w = weighed_carried (validator_by_cons w.mine.staked e.cons) (window_bans.tombstoned i e.cons) e i w
+      pub equivocation_carried : (e : Evidence) (n : N) (w : World Stakes H)
+          → equivocation_handled (core_slashes tells plain_slash) bans e n (carried_core w) ≡ carried_ok core_with (equivocation_handled (core_slashes told plain_slash) bans e n w)
+      equivocation_carried e n w = weighed_carried (validator_by_cons w.mine.staked e.cons) (bans.tombstoned n e.cons) e n w

@@ -4,7 +4,7 @@ use Rattle.base_roles.specs.declared.bank.Ground.{Ground}
 use Rattle.base_roles.specs.declared.entities.RedelegationEntry.{RedelegationEntry}
 use Rattle.base_roles.specs.declared.entities.UnbondingEntry.{UnbondingEntry}
 use Rattle.base_roles.specs.declared.facts.Fact.{Fact}
-use Rattle.base_roles.specs.declared.overheard.Overheard as listening
+use Rattle.chain_modules.specs.declared.overheard.Overheard as listening
 use Rattle.base_roles.specs.declared.pair.HookPair as pair
 use Rattle.base_roles.specs.declared.params.Ctx.{Ctx}
 use Rattle.base_roles.specs.Ground.{seen}

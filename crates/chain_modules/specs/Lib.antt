@@ -1,4 +1,5 @@
 pub mod Erasing
+pub mod Heard
 pub mod Items
 pub mod Kept
 pub mod Marks

@@ -2,7 +2,8 @@
 //! does it in a function of its own.
 
 use crate::modules::{Hooks, Modules, Stakes};
-use base_roles::{Ground, HookPair, Overheard};
+use crate::overheard::Overheard;
+use base_roles::{Ground, HookPair};
 use mod_bank::BankBalances;
 use mod_distribution::Distr;
 use mod_redelegation::Redelegations;

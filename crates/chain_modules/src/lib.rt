@@ -10,6 +10,8 @@ mod letting_go;
 mod listing;
 mod marks;
 mod modules;
+mod overheard;
 
 pub use letting_go::let_go;
 pub use modules::{Hooks, Modules, Stakes};
+pub use overheard::Overheard;

@@ -6,7 +6,8 @@ ghost use Rattle.chain_modules.specs.Kept.{kept_of, parts_of, stakes_kept, liste
 ghost use Rattle.chain_modules.specs.Marks.{marks_of, opened, settled_of, AreOpen, AreClosed, AreStakesClosed, no_marks, stakes_marks, stakes_opened, stakes_settled, hooks_kept, hooks_marks, hooks_opened, hooks_settled};
 
 use crate::modules::{Hooks, Modules, Stakes};
-use base_roles::{Extra, Overheard, RecordFault, Records};
+use crate::overheard::Overheard;
+use base_roles::{Extra, RecordFault, Records};
 use base_types::Steps;
 use mod_distribution::Distr;
 use std::alloc::Global;
@@ -94,6 +95,7 @@ impl<E: Extra> Modules<E> {
         ensures unmarked { marks_of self.new ≡ no_marks }
         ensures power { self.new.stakes.staking.power_reduction
             ≡ self.old.stakes.staking.power_reduction }
+        ensures listener { listener_of self.new ≡ listener_of self.old }
     {
         self.ground.bank.settle(steps);
         self.stakes.staking.settle(steps);

@@ -1,9 +1,10 @@
 //! The modules of a chain over one ground, as one value (`x/bank`, `x/staking`, `x/slashing` and `x/distribution`).
 
-ghost use Rattle.std.specs.Prelude.{◌≤◌, ◌^◌};
-ghost use Rattle.chain_modules.specs.Kept.{IsNewOver};
+ghost use Rattle.std.specs.Prelude.{◌≡◌, ◌≤◌, ◌^◌};
+ghost use Rattle.chain_modules.specs.Kept.{IsNewOver, listener_of};
 
-use base_roles::{Extra, Ground, HookPair, NoHooks, Overheard};
+use crate::overheard::Overheard;
+use base_roles::{Extra, Ground, HookPair, NoHooks};
 use mod_bank::BankBalances;
 use mod_distribution::Distr;
 use mod_redelegation::Redelegations;
@@ -33,7 +34,8 @@ impl<E: Extra> Modules<E> {
     pub fn over(alloc: Global, ground: Ground<BankBalances>, listener: E) -> Modules<E>
         requires some { 1 ≤ ground.ctx.params.power_reduction }
         requires most { ground.ctx.params.power_reduction ≤ 10 ^ 18 }
-        ensures { IsNewOver ground result }
+        ensures empty { IsNewOver ground result }
+        ensures listener { listener_of result ≡ listener }
     {
         let stakes = Core {
             staking: Staking::new(alloc, ground.ctx.params.power_reduction),

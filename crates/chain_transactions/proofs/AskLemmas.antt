@@ -12,11 +12,11 @@ use Rattle.chain_modules.proofs.SceneLemmas.{hooked_kept, stand_shared}
 use Rattle.chain_transactions.specs.Answers.{delegation_asked}
 
 -- a validator and a delegation that stand
-record IsAsked (who operator : List ℕ) (s : Staked) (x : Validator × ℕ) : Type 0 where
-  found : validator_at s operator ≡ Some x.0
-  held : delegation s who operator ≡ Some x.1
+pub record IsAsked (who operator : List ℕ) (s : Staked) (x : Validator × ℕ) : Type 0 where
+  pub found : validator_at s operator ≡ Some x.0
+  pub held : delegation s who operator ≡ Some x.1
 
-asked_is : (who operator : List ℕ) (s : Staked) (x : Validator × ℕ) → delegation_asked who operator s ≡ Ok x → IsAsked who operator s x
+pub asked_is : (who operator : List ℕ) (s : Staked) (x : Validator × ℕ) → delegation_asked who operator s ≡ Ok x → IsAsked who operator s x
 asked_is who operator s x e = let both = by (validator_at s operator) (delegation s who operator) e in record { found = both.0; held = both.1 }
   where
     one : (y z : Validator × ℕ) → ◌≡◌ {A = Result (Validator × ℕ) Refusal} (Ok y) (Ok z) → y ≡ z

@@ -196,7 +196,7 @@ module _ {E : Type 0} (old new : Modules E) (p : State) (k : Keeps (kept_of old)
 -- ---- the five messages
 
 -- an answer without a value is itself
-drops_nothing : (answer : Result ⊤ MessageFault) → dropped answer ≡ answer
+pub drops_nothing : (answer : Result ⊤ MessageFault) → dropped answer ≡ answer
 drops_nothing (Ok a) = refl
 drops_nothing (Err fault) = refl
 

@@ -3,6 +3,8 @@ pub mod CallLemmas
 pub mod EndLemmas
 pub mod FeeLemmas
 pub mod GoLemmas
+pub mod HearLemmas
+pub mod HearingLemmas
 pub mod HeldLemmas
 pub mod MessageLemmas
 pub mod TransactionLemmas

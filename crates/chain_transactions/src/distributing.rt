@@ -2,8 +2,11 @@
 
 ghost use Rattle.std.specs.Prelude.{◌≡◌, ◌^◌, ◌<◌, ◌≤◌, Ok, OnOk, IfErr};
 ghost use Rattle.base_roles.specs.Ground.{IsInOrder};
+ghost use Rattle.base_roles.specs.World.{modified};
 ghost use Rattle.rule_modules.specs.Chain.{State};
 ghost use Rattle.rule_modules.specs.Effects.{withdraw_reward, withdraw_commission, set_withdraw_address, fund_community_pool, community_pool_spend};
+ghost use Rattle.rule_machine.specs.Listening.{Hearing, reward_heard};
+ghost use Rattle.chain_modules.specs.Heard.{Hears, HearsAfter};
 ghost use Rattle.chain_modules.specs.Kept.{StandsWhole, kept_of, stakes_kept, AreSteady, ground_of, listener_of};
 ghost use Rattle.chain_modules.specs.Marks.{GoOn};
 ghost use Rattle.chain_transactions.specs.Answers.{MessageEnds, delegation_asked};
@@ -31,6 +34,9 @@ pub(crate) fn withdraw_reward<E: Extra, L: Ledger>(
     ensures ends { (p : State) → StandsWhole (kept_of modules.old) p → MessageEnds
         (withdraw_reward m.now.delegator m.now.validator p)
         (kept_of modules.new) result }
+    ensures heard { (w : Hearing E.Heard) → Hears E.heard StandsWhole modules.old w → OnOk result
+        (HearsAfter E.heard StandsWhole (reward_heard E.hears m.now.delegator
+        m.now.validator w) modules.new) }
     ensures steady { OnOk result (AreSteady modules.new) }
 
     // Whatever the answer.
@@ -63,8 +69,7 @@ fn renew<E: Extra, L: Ledger>(
 
     // Whatever the answer.
     ensures go_on { GoOn modules.old modules.new }
-    ensures listener { E.Records.marks (listener_of modules.new)
-        ≡ E.Records.marks (listener_of modules.old) }
+    ensures listener { listener_of modules.new ≡ listener_of modules.old }
 {
     modules
         .hooks
@@ -89,6 +94,9 @@ fn hear_start<E: Extra, L: Ledger>(
     requires most { shares ≤ v.now.shares }
     requires tokens { v.now.tokens ≤ 10 ^ 18 }
     ensures kept { OnOk result (kept_of modules.new ≡ kept_of modules.old) }
+    ensures heard { OnOk result (E.heard (listener_of modules.new)
+        ≡ E.hears (E.heard (listener_of modules.old)) (modified v.now delegator.now shares)
+        (ground_of modules.old)) }
     ensures fault { IfErr result (λ fault. fault ≡ HookFault.NoMemory) }
 
     // Whatever the answer.
@@ -136,8 +144,7 @@ pub(crate) fn withdraw_commission<E: Extra, L: Ledger>(
 
     // Whatever the answer.
     ensures go_on { GoOn modules.old modules.new }
-    ensures listener { E.Records.marks (listener_of modules.new)
-        ≡ E.Records.marks (listener_of modules.old) }
+    ensures listener { listener_of modules.new ≡ listener_of modules.old }
 {
     modules
         .hooks
@@ -161,8 +168,7 @@ pub(crate) fn set_withdraw_address<E: Extra, L: Ledger>(
 
     // Whatever the answer.
     ensures go_on { GoOn modules.old modules.new }
-    ensures listener { E.Records.marks (listener_of modules.new)
-        ≡ E.Records.marks (listener_of modules.old) }
+    ensures listener { listener_of modules.new ≡ listener_of modules.old }
 {
     let params = modules.ground.ctx.params;
     let facts = &mut modules.ground.facts;
@@ -188,8 +194,7 @@ pub(crate) fn fund_community_pool<E: Extra, L: Ledger>(
 
     // Whatever the answer.
     ensures go_on { GoOn modules.old modules.new }
-    ensures listener { E.Records.marks (listener_of modules.new)
-        ≡ E.Records.marks (listener_of modules.old) }
+    ensures listener { listener_of modules.new ≡ listener_of modules.old }
 {
     // It tells that they are a list of coins.
     let _ = m.coins.len();
@@ -215,8 +220,7 @@ pub(crate) fn community_pool_spend<E: Extra, L: Ledger>(
 
     // Whatever the answer.
     ensures go_on { GoOn modules.old modules.new }
-    ensures listener { E.Records.marks (listener_of modules.new)
-        ≡ E.Records.marks (listener_of modules.old) }
+    ensures listener { listener_of modules.new ≡ listener_of modules.old }
 {
     // It tells that they are a list of coins.
     let _ = m.coins.len();

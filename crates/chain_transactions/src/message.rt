@@ -3,6 +3,8 @@
 ghost use Rattle.std.specs.Prelude.{◌≡◌, OnOk};
 ghost use Rattle.rule_modules.specs.Chain.{State};
 ghost use Rattle.rule_machine.specs.Messages.{effect_of};
+ghost use Rattle.rule_machine.specs.Listening.{Hearing, effect_heard};
+ghost use Rattle.chain_modules.specs.Heard.{Hears, HearsAfter};
 ghost use Rattle.chain_modules.specs.Kept.{StandsWhole, kept_of, AreSteady, listener_of};
 ghost use Rattle.chain_modules.specs.Marks.{MessagesGoOn};
 ghost use Rattle.chain_transactions.specs.Answers.{MessageEnds};
@@ -34,6 +36,8 @@ pub fn apply_message<E: Extra, L: Ledger>(
     requires steady { AreSteady modules.old }
     ensures ends { (p : State) → StandsWhole (kept_of modules.old) p
         → MessageEnds (effect_of message.now p) (kept_of modules.new) result }
+    ensures heard { (w : Hearing E.Heard) → Hears E.heard StandsWhole modules.old w → OnOk result
+        (HearsAfter E.heard StandsWhole (effect_heard E.hears message.now w) modules.new) }
     ensures steady { OnOk result (AreSteady modules.new) }
 
     // Whatever the answer.

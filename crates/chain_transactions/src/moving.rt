@@ -28,8 +28,7 @@ pub(crate) fn send<E: Extra, L: Ledger>(
 
     // Whatever the answer.
     ensures go_on { GoOn modules.old modules.new }
-    ensures listener { E.Records.marks (listener_of modules.new)
-        ≡ E.Records.marks (listener_of modules.old) }
+    ensures listener { listener_of modules.new ≡ listener_of modules.old }
 {
     // It tells that they are a list of coins.
     let _ = m.coins.len();

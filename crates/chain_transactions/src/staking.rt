@@ -3,6 +3,8 @@
 ghost use Rattle.std.specs.Prelude.{◌≡◌, OnOk};
 ghost use Rattle.rule_modules.specs.Chain.{State};
 ghost use Rattle.rule_modules.specs.Effects.{create_validator, edit_validator, delegate, unjail};
+ghost use Rattle.rule_machine.specs.Listening.{Hearing, creation_heard, delegation_heard};
+ghost use Rattle.chain_modules.specs.Heard.{Hears, HearsAfter};
 ghost use Rattle.chain_modules.specs.Kept.{StandsWhole, kept_of, AreSteady, listener_of};
 ghost use Rattle.chain_modules.specs.Marks.{GoOn};
 ghost use Rattle.chain_transactions.specs.Answers.{MessageEnds};
@@ -24,6 +26,8 @@ pub(crate) fn create_validator<E: Extra, L: Ledger>(
     requires steady { AreSteady modules.old }
     ensures ends { (p : State) → StandsWhole (kept_of modules.old) p
         → MessageEnds (create_validator m.now p) (kept_of modules.new) result }
+    ensures heard { (w : Hearing E.Heard) → Hears E.heard StandsWhole modules.old w → OnOk result
+        (HearsAfter E.heard StandsWhole (creation_heard E.hears m.now w) modules.new) }
     ensures steady { OnOk result (AreSteady modules.new) }
 
     // Whatever the answer.
@@ -50,8 +54,7 @@ pub(crate) fn edit_validator<E: Extra, L: Ledger>(
 
     // Whatever the answer.
     ensures go_on { GoOn modules.old modules.new }
-    ensures listener { E.Records.marks (listener_of modules.new)
-        ≡ E.Records.marks (listener_of modules.old) }
+    ensures listener { listener_of modules.new ≡ listener_of modules.old }
 {
     modules
         .stakes
@@ -70,6 +73,9 @@ pub(crate) fn delegate<E: Extra, L: Ledger>(
     ensures ends { (p : State) → StandsWhole (kept_of modules.old) p → MessageEnds
         (delegate m.now.delegator m.now.validator m.now.amount p)
         (kept_of modules.new) result }
+    ensures heard { (w : Hearing E.Heard) → Hears E.heard StandsWhole modules.old w → OnOk result
+        (HearsAfter E.heard StandsWhole (delegation_heard E.hears m.now.delegator
+        m.now.validator m.now.amount w) modules.new) }
     ensures steady { OnOk result (AreSteady modules.new) }
 
     // Whatever the answer.
@@ -105,8 +111,7 @@ pub(crate) fn unjail<E: Extra, L: Ledger>(
 
     // Whatever the answer.
     ensures go_on { GoOn modules.old modules.new }
-    ensures listener { E.Records.marks (listener_of modules.new)
-        ≡ E.Records.marks (listener_of modules.old) }
+    ensures listener { listener_of modules.new ≡ listener_of modules.old }
 {
     modules.hooks.second.unjail(
         &mut modules.ground,

@@ -8,6 +8,8 @@ ghost use Rattle.rule_machine.specs.Machine.{tx_applied, txs_applied};
 ghost use Rattle.rule_machine.specs.Messages.{effect_of};
 ghost use Rattle.rule_modules.specs.Chain.{State};
 ghost use Rattle.rule_modules.specs.Effects.{fee_paid, effects_of, stands_or_fee, transaction_applied};
+ghost use Rattle.rule_machine.specs.Listening.{Hearing, messages_heard, paid_heard, silently, stands_heard, tx_heard, txs_heard};
+ghost use Rattle.chain_modules.specs.Heard.{Hears, HearsAfter};
 ghost use Rattle.chain_modules.specs.Kept.{StandsWhole, kept_of, AreSteady, listener_of};
 ghost use Rattle.chain_modules.specs.Marks.{behind_of, GoOn, MessagesGoOn};
 ghost use Rattle.chain_transactions.specs.Answers.{MessagesEnd, EndsAs};
@@ -43,8 +45,7 @@ fn pay_fee<E: Extra, L: Ledger>(
 
     // Whatever the answer.
     ensures go_on { GoOn modules.old modules.new }
-    ensures listener { E.Records.marks (listener_of modules.new)
-        ≡ E.Records.marks (listener_of modules.old) }
+    ensures listener { listener_of modules.new ≡ listener_of modules.old }
 {
     // It tells that the fee is a list of coins.
     let _ = tx.fee.len();
@@ -74,6 +75,9 @@ fn apply_messages<E: Extra, L: Ledger>(
     ensures ends { (p : State) → StandsWhole (kept_of modules.old) p → IfOk result
         (λ stop. MessagesEnd (effects_of 0 (map effect_of messages.now) p) stop
         (kept_of modules.new)) }
+    ensures heard { (w : Hearing E.Heard) → Hears E.heard StandsWhole modules.old w → IfOk result
+        (λ stop. stop ≡ None → HearsAfter E.heard StandsWhole
+        (messages_heard E.hears messages.now w) modules.new) }
     ensures steady { IfOk result (λ stop. stop ≡ None → AreSteady modules.new) }
 
     // Whatever the answer.
@@ -103,6 +107,9 @@ fn all_or_none<E: Extra, L: Ledger>(
     ensures ended { (p : State) → StandsWhole (kept_of modules.old) p → IfOk result
         (λ outcome. EndsAs (stands_or_fee p (effects_of 0 (map effect_of messages.now) p)) outcome
         (kept_of modules.new)) }
+    ensures heard { (w : Hearing E.Heard) → Hears E.heard StandsWhole modules.old w → OnOk result
+        (Hears E.heard StandsWhole modules.new
+        (stands_heard E.hears w (messages_heard E.hears messages.now w))) }
     ensures steady { OnOk result (AreSteady modules.new) }
     ensures moment { OnOk result
         (SameMoment modules.old.ground.ctx modules.new.ground.ctx) }
@@ -145,6 +152,9 @@ fn pay_and_apply<E: Extra, L: Ledger>(
         (λ outcome. EndsAs
         (transaction_applied tx.now.payer tx.now.fee (map effect_of tx.now.msgs) p)
         outcome (kept_of modules.new)) }
+    ensures heard { (w : Hearing E.Heard) → Hears E.heard StandsWhole modules.old w → OnOk result
+        (Hears E.heard StandsWhole modules.new (paid_heard E.hears tx.now.msgs w
+        (silently (fee_paid tx.now.payer tx.now.fee) w))) }
     ensures steady { OnOk result (AreSteady modules.new) }
     ensures moment { OnOk result
         (SameMoment modules.old.ground.ctx modules.new.ground.ctx) }
@@ -175,6 +185,8 @@ fn apply_transaction<E: Extra, L: Ledger>(
     ensures state { (p : State) → StandsWhole (kept_of modules.old) p
         → OnOk result (StandsWhole (kept_of modules.new)
         (without_facts (tx_applied tx.now p).state)) }
+    ensures heard { (w : Hearing E.Heard) → Hears E.heard StandsWhole modules.old w → OnOk result
+        (Hears E.heard StandsWhole modules.new (tx_heard E.hears E.parted E.ended tx.now w)) }
     ensures steady { OnOk result (AreSteady modules.new) }
     ensures moment { OnOk result
         (SameMoment modules.old.ground.ctx modules.new.ground.ctx) }
@@ -205,6 +217,8 @@ pub fn apply_transactions<E: Extra, L: Ledger>(
         → IfOk result (λ reports. reports.items ≡ (txs_applied txs.now p).reports) }
     ensures state { (p : State) → StandsWhole (kept_of modules.old) p → OnOk result
         (StandsWhole (kept_of modules.new) (without_facts (txs_applied txs.now p).state)) }
+    ensures heard { (w : Hearing E.Heard) → Hears E.heard StandsWhole modules.old w → OnOk result
+        (Hears E.heard StandsWhole modules.new (txs_heard E.hears E.parted E.ended txs.now w)) }
     ensures steady { OnOk result (AreSteady modules.new) }
     ensures moment { OnOk result
         (SameMoment modules.old.ground.ctx modules.new.ground.ctx) }

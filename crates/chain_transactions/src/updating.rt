@@ -36,8 +36,7 @@ pub(crate) fn update_params<E: Extra, L: Ledger>(
 
     // Whatever the answer.
     ensures go_on { MessagesGoOn modules.old modules.new }
-    ensures listener { E.Records.marks (listener_of modules.new)
-        ≡ E.Records.marks (listener_of modules.old) }
+    ensures listener { listener_of modules.new ≡ listener_of modules.old }
 {
     may_update(&m.authority, &modules.ground.ctx.params, &m.params)?;
     modules

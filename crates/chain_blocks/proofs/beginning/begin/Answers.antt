@@ -1,11 +1,14 @@
-use Rattle.std.proofs.Common.{List, [], Ok, Err, sym, subst, All}
+use Rattle.std.proofs.Common.{List, [], Ok, Err, sym, subst, All, OnOk}
 use Rattle.base_roles.specs.{declared.messages.{Evidence.Evidence, Vote.Vote}, Flow.each}
 use Rattle.rule_modules.specs.Chain.{State, allocation_step, evidence_step, vote_step}
 use Rattle.chain_blocks.specs.{Answers.Leads, Begun.{AreBegun, MayAllocate, MayBeBrought}}
+use Rattle.chain_blocks.proofs.HearLemmas.{begin_hears}
 use Rattle.chain_blocks.proofs.BeginningLemmas.{begin_leads, allocation_stops, brought_on, may_allocate, votes_stop}
 use Rattle.chain_blocks.proofs.LoopLemmas.{steady_begun}
 use Rattle.std.proofs.lemmas.Result.{err_from_is_err_and}
-use Rattle.chain_modules.{specs.Kept.kept_of, proofs.MarkLemmas.then_on}
+use Rattle.rule_machine.specs.Listening.{Hearing, evidence_heard, vote_heard}
+use Rattle.chain_modules.specs.{declared.modules.Modules.Modules, Heard.{Hears, HearsAfter}, Kept.kept_of}
+use Rattle.chain_modules.proofs.MarkLemmas.{then_on}
 use Rattle.chain_blocks.proofs.beginning.begin.Goals as goal
 
 pub allocate-requires : goal.allocate-requires
@@ -44,3 +47,15 @@ returns-clause-steady g c =
 pub returns-clause-go_on : goal.returns-clause-go_on
 returns-clause-go_on g c =
     then_on c.args.modules.now c.count_votes.new.modules c.handle_evidence.new.modules (then_on c.args.modules.now c.allocate.new.modules c.count_votes.new.modules c.allocate.ensures.go_on c.count_votes.ensures.go_on) c.handle_evidence.ensures.go_on
+
+pub returns-clause-heard : goal.returns-clause-heard
+returns-clause-heard g c =
+    let m0 : Modules g.row.E.Denot = c.args.modules.now in
+    let m1 : Modules g.row.E.Denot = c.allocate.new.modules in
+    let m2 : Modules g.row.E.Denot = c.count_votes.new.modules in
+    let m3 : Modules g.row.E.Denot = c.handle_evidence.new.modules in
+    let one = subst (λ (l : List Vote). (p : State) → AreBegun l (kept_of m0) p → Leads (AreBegun l) (allocation_step l p) (kept_of m1) (Ok tt)) c.as_slice-votes.ensures c.in_ok-allocate.ensures.leads in
+    let two = subst (λ (l : List Vote). (w : Hearing _) → Hears g.E.Extra.heard (AreBegun l) m1 w → HearsAfter g.E.Extra.heard (AreBegun []) (each (vote_heard g.E.Extra.hears) l w) m2) c.as_slice-votes.ensures c.in_ok-count_votes.ensures.heard in
+    let three = subst (λ (l : List Evidence). (w : Hearing _) → Hears g.E.Extra.heard (AreBegun []) m2 w → OnOk c.handle_evidence.result (HearsAfter g.E.Extra.heard (AreBegun []) (each (evidence_heard g.E.Extra.hears) l w) m3)) c.as_slice.ensures
+    c.handle_evidence.ensures.heard in
+    begin_hears g.E.Extra.heard g.E.Extra.hears c.args.block.now m0 m1 m2 m3 c.handle_evidence.result one c.allocate.ensures.listener two three

@@ -1,15 +1,18 @@
 use Rattle.std.proofs.Common.{◌∙◌, ◌≤◌, ◌+◌, Ok, Err, [], ap, drop, length, refl, arith}
 use Rattle.std.proofs.lemmas.{List.Elements.All-head, Result.err_from_is_err_and}
 use Rattle.rule_modules.specs.{Chain.{shared_in, vote_step, window_in}, StepLaws.{CountsBelow, IsPower}}
-use Rattle.chain_modules.{specs.declared.modules.Modules.Modules, proofs.{MarkLemmas.then_on, SceneLemmas.window_kept}}
+use Rattle.chain_modules.{specs.{declared.modules.Modules.Modules, Kept.listener_of}, proofs.MarkLemmas.then_on}
+use Rattle.chain_modules.proofs.SceneLemmas.{window_kept}
 use Rattle.chain_transactions.proofs.MessageLemmas.{drop_end}
 use Rattle.chain_blocks.{specs.Begun.AreBegun, proofs.BeginLemmas.vote_leads}
-use Rattle.chain_blocks.proofs.CallLemmas.{counted_kept, power_kept, punishing_on, punishing_scene}
+use Rattle.chain_blocks.proofs.CallLemmas.{counted_kept, power_kept, punishing_heard, punishing_on}
+use Rattle.chain_blocks.proofs.HearLemmas.{all_each_heard, one_each_heard, vote_apart, vote_hears}
 use Rattle.chain_blocks.proofs.LoopLemmas.{all_done, all_votes_counted, no_votes_counted, one_stops, vote_counted, vote_due}
+use Rattle.rule_machine.specs.Listening.{unheard, vote_heard}
 use Rattle.chain_blocks.proofs.beginning.count_votes.Goals as goal
 
 pub loop-vote-init : goal.loop-vote-init
-loop-vote-init g c = (no_votes_counted c.args.votes.now c.args.modules.now c.requires.votes, refl)
+loop-vote-init g c = (no_votes_counted c.args.votes.now c.args.modules.now c.requires.votes, refl, λ w s. (w, s, refl))
 
 pub vote-requires-clause-kept : goal.vote-requires-clause-kept
 vote-requires-clause-kept g c =
@@ -31,7 +34,7 @@ vote-requires-clause-power g c =
 pub vote-requires-clause-scene : goal.vote-requires-clause-scene
 vote-requires-clause-scene g c =
     let due = vote_due c.args.votes.now c.loop-vote.vote-index c.vote-item.result c.args.modules.now c.loop-vote.modules c.loop-vote-test.true c.vote-item.is c.loop-vote.invariant.0 in
-    punishing_scene c.loop-vote.modules due.state due.begun.keeps due.begun.sound
+    punishing_heard g.E.Extra.heard g.E.Extra.hears c.loop-vote.modules due.state due.begun.keeps due.begun.sound
 
 pub loop-vote-preserved : goal.loop-vote-preserved
 loop-vote-preserved g c =
@@ -42,8 +45,15 @@ loop-vote-preserved g c =
     let so =
     vote_counted c.args.votes.now c.loop-vote.vote-index c.vote-item.result c.args.modules.now new c.loop-vote-test.true c.vote-item.is c.loop-vote.invariant.0 last
     (punishing_on new last e.ground.undone (ap (λ x. x.0) e.ground.hook_marks) e.ground.slasher_marks e.goes_on.behind)
-    (λ q b. vote_leads new last q e.ground.undone.ctx c.vote-item.result (drop (c.loop-vote.vote-index + 1) c.args.votes.now) b (Ok tt) (c.in_ok-vote.ensures.told (shared_in q) b.keeps.shared q.log (window_in q) b.keeps.signings)) in
-    (so, g.met.E.Extra.listens.same_marks _ _ (ap (λ x. x.1) e.ground.hook_marks) ∙ c.loop-vote.invariant.1)
+    (λ q b. vote_leads new last q e.ground.undone.ctx c.vote-item.result (drop (c.loop-vote.vote-index + 1) c.args.votes.now) b (Ok tt) (vote_apart g.E.Extra.heard g.E.Extra.hears last c.vote-item.result (window_in q) _ _ (Ok tt) (c.in_ok-vote.ensures.told (shared_in q, g.E.Extra.heard (listener_of new)) (b.keeps.shared, refl) q.log (window_in q) b.keeps.signings))) in
+    let others = drop (c.loop-vote.vote-index + 1) c.args.votes.now in (
+      so,
+      g.met.E.Extra.listens.same_marks _ _ (ap (λ x. x.1) e.ground.hook_marks) ∙ c.loop-vote.invariant.1,
+      one_each_heard g.E.Extra.heard (vote_heard g.E.Extra.hears) AreBegun c.args.votes.now c.loop-vote.vote-index c.vote-item.result c.args.modules.now new last c.loop-vote-test.true c.vote-item.is c.loop-vote.invariant.2
+      (λ w s. vote_hears g.E.Extra.heard g.E.Extra.hears last new w c.vote-item.result others _ s
+      (vote_leads new last (unheard w) e.ground.undone.ctx c.vote-item.result others s.0 (Ok tt) (vote_apart g.E.Extra.heard g.E.Extra.hears last c.vote-item.result w.hooks.1 _ _ (Ok tt) (c.in_ok-vote.ensures.told (w.hooks.0.0, g.E.Extra.heard (listener_of new)) (s.0.keeps.shared, refl) w.log w.hooks.1 s.0.keeps.signings)))
+      (c.in_ok-vote.ensures.told w.hooks.0 (s.0.keeps.shared, s.1) w.log w.hooks.1 s.0.keeps.signings)),
+    )
 
 pub returns-in_err-vote-clause-leads : goal.returns-in_err-vote-clause-leads
 returns-in_err-vote-clause-leads g c = λ p s.
@@ -55,7 +65,7 @@ returns-in_err-vote-clause-leads g c = λ p s.
     rw (r.1, r.2) (one_stops vote_step AreBegun c.args.votes.now c.loop-vote.vote-index c.vote-item.result c.args.modules.now new last c.loop-vote-test.true c.vote-item.is c.loop-vote.invariant.0.so
     (punishing_on new last e.ground.undone (ap (λ x. x.0) e.ground.hook_marks) e.ground.slasher_marks e.goes_on.behind) (AreBegun []) c.in_err-vote.field-0.0
     (λ q b. vote_leads new last q e.ground.undone.ctx c.vote-item.result (drop (c.loop-vote.vote-index + 1) c.args.votes.now) b (Err c.in_err-vote.field-0.0)
-    (c.in_err-vote.ensures.told (shared_in q) b.keeps.shared q.log (window_in q) b.keeps.signings)) p s)
+    (vote_apart g.E.Extra.heard g.E.Extra.hears last c.vote-item.result (window_in q) _ _ (Err c.in_err-vote.field-0.0) (c.in_err-vote.ensures.told (shared_in q, g.E.Extra.heard (listener_of new)) (b.keeps.shared, refl) q.log (window_in q) b.keeps.signings))) p s)
 
 pub returns-in_err-vote-clause-go_on : goal.returns-in_err-vote-clause-go_on
 returns-in_err-vote-clause-go_on g c =
@@ -87,3 +97,10 @@ returns-in_err-vote-clause-listener g c = g.met.E.Extra.listens.same_marks _ _ (
 
 pub returns-clause-listener : goal.returns-clause-listener
 returns-clause-listener g c = c.loop-vote.invariant.1
+
+pub returns-clause-heard : goal.returns-clause-heard
+returns-clause-heard g c =
+    let place = c.loop-vote.vote-index in
+    let most : place ≤ length c.args.votes.now = omega (arith, c.loop-vote.auto.vote-index-end) in
+    let least : length c.args.votes.now ≤ place = omega (arith, c.loop-vote-test.false) in
+    all_each_heard g.E.Extra.heard (vote_heard g.E.Extra.hears) AreBegun c.args.votes.now place c.args.modules.now c.loop-vote.modules (drop_end c.args.votes.now place most least) c.loop-vote.invariant.2

@@ -1,11 +1,13 @@
 use Rattle.std.proofs.Common.{◌∙◌, ◌^◌, ◌<◌, ◌≤◌, Ok, Err, refl, sym, ap, subst}
 use Rattle.std.proofs.lemmas.Result.{err_from_is_err_and}
 use Rattle.base_roles.specs.World.{View}
-use Rattle.rule_machine.specs.Machine.{step}
-use Rattle.chain_modules.specs.{declared.modules.Modules.Modules, Kept.{KeptState, kept_of, kept_over, parts_of}}
-use Rattle.chain_modules.proofs.MarkLemmas.{one_more_some}
-use Rattle.chain_blocks.specs.Answers.{AnswersStep, Applies, parts_stepped}
+use Rattle.rule_machine.specs.{Listening.{heard_in, hearing, unheard}, Machine.step}
+use Rattle.chain_modules.specs.declared.modules.Modules.{Modules}
+use Rattle.chain_modules.specs.Kept.{KeptState, kept_of, kept_over, listener_of, parts_of}
+use Rattle.chain_modules.proofs.{HeardLemmas.heard_again, MarkLemmas.one_more_some}
+use Rattle.chain_blocks.specs.Answers.{AnswersStep, Applies, parts_heard, parts_stepped}
 use Rattle.chain_blocks.proofs.ApplyLemmas.{back_kept, back_marks, begins, begun_kept, rest_closed, rest_same, settled_behind, still_open}
+use Rattle.chain_blocks.proofs.HearLemmas.{block_hears}
 use Rattle.chain_blocks.proofs.BlockLemmas.{applies_parts, faults, has_begun, opened, record_stops, same_fault}
 use Rattle.chain_blocks.proofs.block.apply.Goals as goal
 
@@ -131,3 +133,22 @@ returns-clause-settled g c =
     let b = c.args.block.now in
     let begun : Modules g.row.E.Denot = record { ground = record { bank = marked.ground.bank; ctx = record { height = b.height; time = b.time; params = c.args.modules.now.ground.ctx.params }; facts = marked.ground.facts }; stakes = marked.stakes; hooks = marked.hooks } in
     c.back.ensures.settled ∙ settled_behind begun c.apply_parts.new.modules c.apply_parts.ensures.behind ∙ c.mark.ensures.settled
+
+pub returns-in-Err-clause-unheard : goal.returns-in-Err-clause-unheard
+returns-in-Err-clause-unheard g c = g.met.E.Extra.listens.restores _ _ c.mark.ensures.listener_same
+
+pub returns-in-Ok-clause-heard : goal.returns-in-Ok-clause-heard
+returns-in-Ok-clause-heard g c = λ w s.
+    let old : Modules g.row.E.Denot = c.args.modules.now in
+    let marked : Modules g.row.E.Denot = c.mark.new.self in
+    let b = c.args.block.now in
+    let begun : Modules g.row.E.Denot = record { ground = record { bank = marked.ground.bank; ctx = record { height = b.height; time = b.time; params = old.ground.ctx.params }; facts = marked.ground.facts }; stakes = marked.stakes; hooks = marked.hooks } in
+    let listens = g.met.E.Extra.listens in
+    let checked = c.in_ok-check_block.ensures.checked (unheard w) s.0 in
+    let first = hearing (heard_in w) (opened b (unheard w)) in
+    block_hears g.E.Extra.heard g.E.Extra.hears g.E.Extra.parted g.E.Extra.ended c.apply_parts.new.modules c.forget.new.self (parts_heard g.E.Extra.hears g.E.Extra.parted g.E.Extra.ended b first) c.forget.ensures.same (listens.restores _ _ c.forget.ensures.listener_same)
+    (c.in-Ok.ensures.heard first (has_begun b (kept_of old) (kept_of begun) (unheard w) s.0 checked c.requires.height (begun_kept b old marked c.requires.rest c.mark.ensures.same), listens.restores _ _ c.mark.ensures.listener_same ∙ s.1))
+
+pub returns-clause-unheard : goal.returns-clause-unheard
+returns-clause-unheard g c =
+    heard_again g.met.E.Extra.listens (listener_of c.args.modules.now) (listener_of c.back.new.self) (c.back.ensures.listener ∙ c.apply_parts.ensures.listener ∙ c.in_default.ensures.listener_opened)

@@ -1,11 +1,11 @@
 use Rattle.std.proofs.Common.{◌≡◌, ◌∙◌, List, Err, sym, subst}
 use Rattle.base_messages.specs.declared.block.Tx.{Tx}
 use Rattle.rule_modules.specs.Chain.{State}
-use Rattle.rule_machine.specs.{GenesisState.without_facts, Machine.txs_applied}
-use Rattle.chain_modules.specs.{declared.modules.Modules.Modules, Kept.{StandsWhole, kept_of}}
+use Rattle.rule_machine.specs.{GenesisState.without_facts, Listening.{Hearing, txs_heard}, Machine.txs_applied}
+use Rattle.chain_modules.specs.{declared.modules.Modules.Modules, Heard.Hears, Kept.{StandsWhole, kept_of}}
 use Rattle.chain_blocks.specs.Answers.{AnswersStep, parts_stepped}
-use Rattle.chain_blocks.proofs.ApplyLemmas.{IsTaken, end_stopped, parts_done, taken_behind, taken_steady}
-use Rattle.chain_blocks.proofs.BlockLemmas.{begin_stops, record_stops}
+use Rattle.chain_blocks.proofs.ApplyLemmas.{IsTaken, end_stopped, parts_done, taken_behind, taken_kept, taken_steady}
+use Rattle.chain_blocks.proofs.{HearLemmas.parts_hear, BlockLemmas.{begin_stops, record_stops}}
 use Rattle.chain_blocks.proofs.block.apply_parts.Goals as goal
 
 pub returns-in-Err-clause-steps : goal.returns-in-Err-clause-steps
@@ -77,3 +77,18 @@ returns-clause-behind g c =
     let taken : IsTaken c.begin.new.modules c.told-begun.new.modules = record { none = t.none; bank = t.bank; ctx = t.ctx; stakes = t.stakes; shared = t.shared; signings = t.signings } in
     let out : IsTaken c.end.new.modules c.told_last-ended.new.modules = record { none = u.none; bank = u.bank; ctx = u.ctx; stakes = u.stakes; shared = u.shared; signings = u.signings } in
     taken_behind c.end.new.modules c.told_last-ended.new.modules out ∙ c.end.ensures.go_on.behind ∙ c.apply_transactions.ensures.behind ∙ taken_behind c.begin.new.modules c.told-begun.new.modules taken ∙ c.begin.ensures.go_on.behind
+
+pub returns-clause-heard : goal.returns-clause-heard
+returns-clause-heard g c =
+    let b = c.args.block.now in
+    let begun : Modules g.row.E.Denot = c.begin.new.modules in
+    let told : Modules g.row.E.Denot = c.told-begun.new.modules in
+    let applied : Modules g.row.E.Denot = c.apply_transactions.new.modules in
+    let done : Modules g.row.E.Denot = c.end.new.modules in
+    let last : Modules g.row.E.Denot = c.told_last-ended.new.modules in
+    let t = c.told-begun.ensures in
+    let u = c.told_last-ended.ensures in
+    let taken : IsTaken begun told = record { none = t.none; bank = t.bank; ctx = t.ctx; stakes = t.stakes; shared = t.shared; signings = t.signings } in
+    let out : IsTaken done last = record { none = u.none; bank = u.bank; ctx = u.ctx; stakes = u.stakes; shared = u.shared; signings = u.signings } in
+    let applies = subst (λ (l : List Tx). (w : Hearing _) → Hears g.E.Extra.heard StandsWhole told w → Hears g.E.Extra.heard StandsWhole applied (txs_heard g.E.Extra.hears g.E.Extra.parted g.E.Extra.ended l w)) c.as_slice.ensures c.in-Ok.ensures.heard in
+    parts_hear g.E.Extra.heard g.E.Extra.hears g.E.Extra.parted g.E.Extra.ended b c.args.modules.now begun told applied done last c.in_default.ensures.heard (taken_kept begun told taken) t.heard applies c.in_default-end.ensures.heard (taken_kept done last out) u.heard

@@ -3,7 +3,7 @@ use Rattle.std.proofs.lemmas.Result.{err_from_is_err_and}
 use Rattle.base_roles.specs.Flow.{◌>>=◌}
 use Rattle.rule_modules.specs.Chain.{maturing_step, redelegations_step, set_step, unbondings_step}
 use Rattle.chain_modules.{specs.Kept.{StandsWhole, kept_of}, proofs.MarkLemmas.then_on}
-use Rattle.chain_blocks.proofs.LeadLemmas.{stop_leads, then_leads}
+use Rattle.chain_blocks.proofs.{HearLemmas.end_hears, LeadLemmas.{stop_leads, then_leads}}
 use Rattle.chain_blocks.proofs.ending.end.Goals as goal
 
 pub returns-in_err-make_set-clause-leads : goal.returns-in_err-make_set-clause-leads
@@ -32,3 +32,8 @@ returns-clause-leads g c = then_leads StandsWhole StandsWhole StandsWhole set_st
 
 pub returns-clause-go_on : goal.returns-clause-go_on
 returns-clause-go_on g c = (then_on c.args.modules.now c.pay_unbondings.new.modules c.end_redelegations.new.modules (then_on c.args.modules.now c.mature.new.modules c.pay_unbondings.new.modules (then_on c.args.modules.now c.make_set.new.modules c.mature.new.modules c.make_set.ensures.go_on c.mature.ensures.go_on) c.pay_unbondings.ensures.go_on) c.end_redelegations.ensures.go_on)
+
+pub returns-clause-heard : goal.returns-clause-heard
+returns-clause-heard g c =
+    end_hears g.E.Extra.heard g.E.Extra.hears c.args.modules.now c.make_set.new.modules c.mature.new.modules c.pay_unbondings.new.modules c.end_redelegations.new.modules c.end_redelegations.result c.in_ok-make_set.ensures.heard c.in_ok-mature.ensures.heard
+    c.in_ok-pay_unbondings.ensures.leads c.pay_unbondings.ensures.listener c.end_redelegations.ensures.leads c.end_redelegations.ensures.listener

@@ -1,20 +1,21 @@
 use Rattle.std.proofs.Common.{[], refl}
-use Rattle.chain_modules.{specs.{declared.modules.Modules.Modules, Kept.kept_of}, proofs.HookLemmas.held_as}
-use Rattle.chain_modules.proofs.SceneLemmas.{hooked_kept}
+use Rattle.chain_modules.{specs.{declared.modules.Modules.Modules, Kept.kept_of}, proofs.HeardLemmas.heard_hooked}
+use Rattle.chain_modules.proofs.{HookLemmas.held_as, SceneLemmas.hooked_kept}
 use Rattle.rule_modules.specs.Chain.{maturing_step}
 use Rattle.chain_transactions.proofs.GoLemmas.{all_on, listener_behind, unheard}
+use Rattle.chain_blocks.proofs.HearLemmas.{matured_apart, matured_hears}
 use Rattle.chain_blocks.proofs.EndLemmas.{matured_leads, maturing_next, step_leads, steady_on}
 use Rattle.chain_blocks.proofs.ending.mature.Goals as goal
 
 pub mature_validators-requires : goal.mature_validators-requires
-mature_validators-requires g c = let s = c.requires.steady in record { hooked = hooked_kept c.args.modules.now s.state s.stands.keeps s.stands.sound }
+mature_validators-requires g c = let s = c.requires.steady in record { hooked = heard_hooked g.E.Extra.hears g.E.Extra.heard c.args.modules.now.hooks _ _ (hooked_kept c.args.modules.now s.state s.stands.keeps s.stands.sound) }
 
 pub returns-clause-leads : goal.returns-clause-leads
 returns-clause-leads g c = λ p s.
     let old : Modules g.row.E.Denot = c.args.modules.now in
     let after = c.mature_validators.new in
     let new : Modules g.row.E.Denot = record { ground = after.g; stakes = record { staking = after.staking; unbondings = old.stakes.unbondings; redelegations = old.stakes.redelegations }; hooks = after.hooks } in
-    step_leads maturing_step p (kept_of new) c.mature_validators.result (maturing_next p s.sound s.whole) (matured_leads old new p s.keeps c.mature_validators.ensures.undone.ctx refl refl c.mature_validators.result (c.mature_validators.ensures.told (held_as old.ground.ctx.params.signed_blocks_window p.hooks) (s.keeps.shared, s.keeps.signings) []))
+    step_leads maturing_step p (kept_of new) c.mature_validators.result (maturing_next p s.sound s.whole) (matured_leads old new p s.keeps c.mature_validators.ensures.undone.ctx refl refl c.mature_validators.result (matured_apart g.E.Extra.heard g.E.Extra.hears old new c.mature_validators.result (λ h o. c.mature_validators.ensures.told h o []) (held_as old.ground.ctx.params.signed_blocks_window p.hooks) (s.keeps.shared, s.keeps.signings)))
 
 pub returns-clause-steady : goal.returns-clause-steady
 returns-clause-steady g c =
@@ -22,7 +23,7 @@ returns-clause-steady g c =
     let after = c.mature_validators.new in
     let new : Modules g.row.E.Denot = record { ground = after.g; stakes = record { staking = after.staking; unbondings = old.stakes.unbondings; redelegations = old.stakes.redelegations }; hooks = after.hooks } in
     steady_on maturing_step old new c.mature_validators.result c.requires.steady (all_on old new c.mature_validators.ensures.undone c.mature_validators.ensures.behind refl refl (unheard g.E.StakingHooks.marks old.hooks new.hooks c.mature_validators.ensures.hook_marks))
-    (λ p s. step_leads maturing_step p (kept_of new) c.mature_validators.result (maturing_next p s.sound s.whole) (matured_leads old new p s.keeps c.mature_validators.ensures.undone.ctx refl refl c.mature_validators.result (c.mature_validators.ensures.told (held_as old.ground.ctx.params.signed_blocks_window p.hooks) (s.keeps.shared, s.keeps.signings) [])))
+    (λ p s. step_leads maturing_step p (kept_of new) c.mature_validators.result (maturing_next p s.sound s.whole) (matured_leads old new p s.keeps c.mature_validators.ensures.undone.ctx refl refl c.mature_validators.result (matured_apart g.E.Extra.heard g.E.Extra.hears old new c.mature_validators.result (λ h o. c.mature_validators.ensures.told h o []) (held_as old.ground.ctx.params.signed_blocks_window p.hooks) (s.keeps.shared, s.keeps.signings))))
 
 pub returns-clause-go_on : goal.returns-clause-go_on
 returns-clause-go_on g c =
@@ -33,3 +34,11 @@ returns-clause-go_on g c =
 
 pub returns-clause-listener : goal.returns-clause-listener
 returns-clause-listener g c = g.met.E.Extra.listens.same_marks _ _ (listener_behind g.E.StakingHooks.marks c.args.modules.now.hooks c.mature_validators.new.hooks c.mature_validators.ensures.hook_marks)
+
+pub returns-clause-heard : goal.returns-clause-heard
+returns-clause-heard g c =
+    let old : Modules g.row.E.Denot = c.args.modules.now in
+    let after = c.mature_validators.new in
+    let new : Modules g.row.E.Denot = record { ground = after.g; stakes = record { staking = after.staking; unbondings = old.stakes.unbondings; redelegations = old.stakes.redelegations }; hooks = after.hooks } in
+    matured_hears g.E.Extra.heard g.E.Extra.hears old new c.mature_validators.result (λ h o. c.mature_validators.ensures.told h o []) (λ p s.
+    step_leads maturing_step p (kept_of new) c.mature_validators.result (maturing_next p s.sound s.whole) (matured_leads old new p s.keeps c.mature_validators.ensures.undone.ctx refl refl c.mature_validators.result (matured_apart g.E.Extra.heard g.E.Extra.hears old new c.mature_validators.result (λ h o. c.mature_validators.ensures.told h o []) (held_as old.ground.ctx.params.signed_blocks_window p.hooks) (s.keeps.shared, s.keeps.signings))))

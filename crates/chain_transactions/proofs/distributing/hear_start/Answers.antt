@@ -1,6 +1,6 @@
 use Rattle.std.proofs.Common.{true, false, refl}
 use Rattle.base_roles.{specs.{Owing.Lists, World.modified}, proofs.ListenLemmas.{quiet_may, quiet_leaves}}
-use Rattle.chain_modules.specs.{declared.modules.Modules.Modules, Kept.ground_of}
+use Rattle.chain_modules.{specs.{declared.modules.Modules.Modules, Kept.ground_of}, proofs.OverheardLemmas.listened_ok}
 use Rattle.chain_transactions.proofs.GoLemmas.{all_on, heard_kept, heard_wants}
 use Rattle.chain_transactions.proofs.distributing.hear_start.Goals as goal
 
@@ -40,3 +40,9 @@ returns-clause-go_on g c =
 
 pub returns-clause-listener : goal.returns-clause-listener
 returns-clause-listener g c = g.met.E.Extra.listens.same_marks _ _ c.after_delegation_modified.ensures.marks
+
+pub returns-clause-heard : goal.returns-clause-heard
+returns-clause-heard g c =
+    let a = c.args in
+    listened_ok g.E.Extra.hears g.met.E.StakingHooks.lawful g.met.E.Extra.listens a.modules.now.hooks.first.listener c.after_delegation_modified.new.self (modified a.v.now a.delegator.now a.shares) (ground_of a.modules.now) _ c.after_delegation_modified.result
+    c.after_delegation_modified.ensures.told

@@ -5,7 +5,7 @@ use Rattle.rule_modules.specs.Effects.{withdraw_reward}
 use Rattle.chain_modules.{specs.Kept.kept_of, proofs.{MarkLemmas.then_on, SceneLemmas.ground_kept}}
 use Rattle.chain_modules.proofs.StandLemmas.{whole_same}
 use Rattle.chain_transactions.{specs.Answers.MessageEnds, proofs.{AskLemmas.asked_fits, FeeLemmas.steady_then}}
-use Rattle.chain_transactions.proofs.MessageLemmas.{wants_behind}
+use Rattle.chain_transactions.proofs.{HearLemmas.reward_hears, MessageLemmas.wants_behind}
 use Rattle.chain_transactions.proofs.distributing.withdraw_reward.Goals as goal
 
 pub renew-requires-clause-asked : goal.renew-requires-clause-asked
@@ -54,3 +54,9 @@ returns-clause-steady g c =
 
 pub returns-clause-go_on : goal.returns-clause-go_on
 returns-clause-go_on g c = then_on c.args.modules.now c.renew.new.modules c.hear_start.new.modules c.renew.ensures.go_on c.hear_start.ensures.go_on
+
+pub returns-clause-heard : goal.returns-clause-heard
+returns-clause-heard g c =
+    let m = c.args.m.now in
+    reward_hears g.E.Extra.heard g.E.Extra.hears c.args.modules.now c.renew.new.modules c.hear_start.new.modules m.delegator m.validator (c.in_ok-v.v, c.in_ok-v.shares) (sym c.in_ok-v.ensures) c.in_ok-renew.ensures.ends c.renew.ensures.listener
+    c.in_ok-hear_start.ensures.kept c.in_ok-hear_start.ensures.heard

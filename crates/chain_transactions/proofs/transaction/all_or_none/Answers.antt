@@ -1,10 +1,13 @@
 use Rattle.std.proofs.Common.{◌≡◌, ◌∙◌, map, Some, None, refl, sym, ap, subst}
 use Rattle.base_roles.specs.Ground.{SameMoment}
-use Rattle.rule_machine.specs.Messages.{effect_of}
+use Rattle.rule_machine.specs.{Listening.{messages_heard, unheard}, Messages.effect_of}
 use Rattle.rule_modules.specs.Effects.{effects_of}
-use Rattle.chain_transactions.specs.Answers.{MessagesEnd}
+use Rattle.chain_transactions.{specs.Answers.MessagesEnd, proofs.HearingLemmas.{accepted_hears, refused_hears}}
 use Rattle.chain_transactions.proofs.TransactionLemmas.{accepted_ends, undone, refused_ends}
-use Rattle.chain_modules.{specs.Kept.{KeptState, kept_of, kept_over, parts_of}, proofs.StandLemmas.whole_same}
+use Rattle.chain_modules.specs.declared.modules.Modules.{Modules}
+use Rattle.chain_modules.specs.Kept.{KeptState, kept_of, kept_over, listener_of, parts_of}
+use Rattle.chain_modules.proofs.{ErasingLemmas.messages_unheard, HeardLemmas.{heard_again, hears_same}}
+use Rattle.chain_modules.proofs.StandLemmas.{whole_same}
 use Rattle.chain_transactions.proofs.transaction.all_or_none.Goals as goal
 
 pub returns-in-Ok-Some-clause-ended : goal.returns-in-Ok-Some-clause-ended
@@ -67,3 +70,28 @@ returns-in-Ok-None-clause-moment g c =
     let first = ap (λ (k : KeptState). k.view.ctx) c.mark.ensures.same in
     let last = ap (λ (k : KeptState). k.view.ctx) c.forget.ensures.same in
     subst (λ x. SameMoment x c.forget.new.self.ground.ctx) first (subst (SameMoment c.mark.new.self.ground.ctx) (sym last) c.apply_messages.ensures.go_on.moment)
+
+pub returns-in-Ok-Some-clause-heard : goal.returns-in-Ok-Some-clause-heard
+returns-in-Ok-Some-clause-heard g c = λ w s.
+    let old : Modules g.row.E.Denot = c.args.modules.now in
+    let back : Modules g.row.E.Denot = c.back.new.self in
+    let left : Modules g.row.E.Denot = record { ground = record { bank = back.ground.bank; ctx = old.ground.ctx; facts = c.cut.new.self }; stakes = back.stakes; hooks = back.hooks } in
+    let place = c.in-Ok-Some.place in
+    let why = c.in-Ok-Some.why in
+    let is : c.in-Ok-Some.field-0 ≡ Some (place, why) = cc in
+    let r = effects_of 0 (map effect_of c.args.messages.now) (unheard w) in
+    let after = kept_of c.apply_messages.new.modules in
+    refused_hears g.E.Extra.heard g.E.Extra.hears old left w r (messages_heard g.E.Extra.hears c.args.messages.now w) (place, why) after (messages_unheard g.E.Extra.hears 0 c.args.messages.now w)
+    (subst (λ o. MessagesEnd r o after) is (c.in-Ok-Some.ensures.ends (unheard w) (whole_same (kept_of old) (kept_of c.mark.new.self) (unheard w) c.mark.ensures.same s.0)))
+    (undone old c.mark.new.self c.apply_messages.new.modules back c.len-told.result c.cut.new.self c.mark.ensures.same c.in_ok-mark.ensures.opened c.apply_messages.ensures.go_on c.back.ensures.back
+    c.back.ensures.facts c.len-told.ensures c.cut.ensures)
+    (heard_again g.met.E.Extra.listens (listener_of old) (listener_of back) (c.back.ensures.listener ∙ c.apply_messages.ensures.listener ∙ c.in_ok-mark.ensures.listener_opened)) s
+
+pub returns-in-Ok-None-clause-heard : goal.returns-in-Ok-None-clause-heard
+returns-in-Ok-None-clause-heard g c = λ w s.
+    let old : Modules g.row.E.Denot = c.args.modules.now in
+    let marked : Modules g.row.E.Denot = c.mark.new.self in
+    let listens = g.met.E.Extra.listens in
+    let is : c.in-Ok-None.field-0 ≡ None = cc in
+    accepted_hears g.E.Extra.heard g.E.Extra.hears c.apply_messages.new.modules c.forget.new.self w (messages_heard g.E.Extra.hears c.args.messages.now w)
+    (c.in-Ok-None.ensures.heard w (hears_same g.E.Extra.heard old marked w c.mark.ensures.same (listens.restores _ _ c.mark.ensures.listener_same) s) is) c.forget.ensures.same (listens.restores _ _ c.forget.ensures.listener_same)

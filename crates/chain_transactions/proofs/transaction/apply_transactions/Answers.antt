@@ -1,5 +1,5 @@
 use Rattle.std.proofs.Common.{◌∙◌, ◌≤◌, length, arith}
-use Rattle.chain_transactions.proofs.MessageLemmas.{drop_end}
+use Rattle.chain_transactions.proofs.{HearingLemmas.{all_txs_heard, one_tx_heard}, MessageLemmas.drop_end}
 use Rattle.chain_transactions.proofs.TransactionLemmas.{applied_next, all_reported, all_applied}
 use Rattle.chain_transactions.proofs.transaction.apply_transactions.Goals as goal
 
@@ -8,7 +8,11 @@ loop-tx-preserved g c =
     let so =
     applied_next c.args.txs.now c.loop-tx.tx-index c.tx-item.result c.args.modules.now c.loop-tx.modules c.apply_transaction.new.modules c.loop-tx.reports.items _ _ c.loop-tx-test.true c.tx-item.is c.loop-tx.invariant.0
     c.in_ok-report.ensures.report c.in_ok-report.ensures.state c.in_ok-push.ensures.items c.in_ok-report.ensures.steady c.in_ok-report.ensures.none c.in_ok-report.ensures.moment c.apply_transaction.ensures.behind in
-    (so, c.apply_transaction.ensures.listener ∙ c.loop-tx.invariant.1)
+    (
+      so,
+      c.apply_transaction.ensures.listener ∙ c.loop-tx.invariant.1,
+      one_tx_heard g.E.Extra.heard g.E.Extra.hears g.E.Extra.parted g.E.Extra.ended c.args.txs.now c.loop-tx.tx-index c.tx-item.result c.args.modules.now c.loop-tx.modules c.apply_transaction.new.modules c.loop-tx-test.true c.tx-item.is c.loop-tx.invariant.2 c.in_ok-report.ensures.heard,
+    )
 
 pub returns-clause-reports : goal.returns-clause-reports
 returns-clause-reports g c =
@@ -23,3 +27,10 @@ returns-clause-state g c =
     let most : place ≤ length c.args.txs.now = omega (arith, c.loop-tx.auto.tx-index-end) in
     let least : length c.args.txs.now ≤ place = omega (arith, c.loop-tx-test.false) in
     all_applied c.args.txs.now place c.args.modules.now c.loop-tx.modules c.loop-tx.reports.items (drop_end c.args.txs.now place most least) c.loop-tx.invariant.0
+
+pub returns-clause-heard : goal.returns-clause-heard
+returns-clause-heard g c =
+    let place = c.loop-tx.tx-index in
+    let most : place ≤ length c.args.txs.now = omega (arith, c.loop-tx.auto.tx-index-end) in
+    let least : length c.args.txs.now ≤ place = omega (arith, c.loop-tx-test.false) in
+    all_txs_heard g.E.Extra.heard g.E.Extra.hears g.E.Extra.parted g.E.Extra.ended c.args.txs.now place c.args.modules.now c.loop-tx.modules (drop_end c.args.txs.now place most least) c.loop-tx.invariant.2

@@ -11,7 +11,7 @@ pub over-requires-clause-most : goal.over-requires-clause-most
 over-requires-clause-most g c = (start_in_order c.args.genesis.now c.requires.starts).params.power_reduction_most
 
 pub returns-clause-empty : goal.returns-clause-empty
-returns-clause-empty g c = is_empty c.args.genesis.now _ c.over.result c.over.ensures (ap (λ (b : Booked). b.holdings) c.in_ok-bank.ensures.book) refl c.new.ensures c.requires.starts
+returns-clause-empty g c = is_empty c.args.genesis.now _ c.over.result c.over.ensures.empty (ap (λ (b : Booked). b.holdings) c.in_ok-bank.ensures.book) refl c.new.ensures c.requires.starts
 
 pub returns-clause-unmarked : goal.returns-clause-unmarked
-returns-clause-unmarked g c = new_marks c.args.genesis.now _ c.over.result c.over.ensures (ap (λ (b : Booked). b.marks) c.in_ok-bank.ensures.book)
+returns-clause-unmarked g c = new_marks c.args.genesis.now _ c.over.result c.over.ensures.empty (ap (λ (b : Booked). b.marks) c.in_ok-bank.ensures.book)
