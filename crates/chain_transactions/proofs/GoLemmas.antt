@@ -92,21 +92,21 @@ ground_stays old new e = record {
 -- ---- what a listener hears
 
 -- where only the listener heard something, the modules keep the same
-pub heard_kept : {E : Type 0} (old new : Modules E) → new.stakes ≡ old.stakes → new.hooks.first.hooks ≡ old.hooks.first.hooks → new.hooks.second ≡ old.hooks.second → (answer : Result ⊤ HookFault)
-    → Answers {H = ⊤} (gives tt (ground_of old) []) (λ _. ⊤) (ground_of new) answer → OnOk answer (kept_of new ≡ kept_of old)
-heard_kept old new stakes shared signings (Ok a) h = λ i. record {
+pub heard_kept : {E H : Type 0} (old new : Modules E) (h : H) (still : H → Type 0) → new.stakes ≡ old.stakes → new.hooks.first.hooks ≡ old.hooks.first.hooks → new.hooks.second ≡ old.hooks.second → (answer : Result ⊤ HookFault)
+    → Answers (gives h (ground_of old) []) still (ground_of new) answer → OnOk answer (kept_of new ≡ kept_of old)
+heard_kept old new h still stakes shared signings (Ok a) told = λ i. record {
   stakes = record { staked = (stakes i).staking.staked; unbondings = (stakes i).unbondings.lists; redelegations = (stakes i).redelegations.lists };
   shared = (shared i).kept;
   signings = (signings i).kept;
-  view = h.1 i;
+  view = told.1 i;
 }
-heard_kept old new stakes shared signings (Err fault) h = tt
+heard_kept old new h still stakes shared signings (Err fault) told = tt
 
 -- and it has no error but want of memory
-pub heard_wants : (w u : View) (answer : Result ⊤ HookFault) → Answers {H = ⊤} (gives tt w []) (λ _. ⊤) u answer → IfErr answer (λ fault. fault ≡ hook.NoMemory)
-heard_wants w u (Ok a) h = tt
-heard_wants w u (Err (hook.Over over)) h = absurd h
-heard_wants w u (Err hook.NoMemory) h = refl
+pub heard_wants : {H : Type 0} (h : H) (still : H → Type 0) (w u : View) (answer : Result ⊤ HookFault) → Answers (gives h w []) still u answer → IfErr answer (λ fault. fault ≡ hook.NoMemory)
+heard_wants h still w u (Ok a) told = tt
+heard_wants h still w u (Err (hook.Over over)) told = absurd told
+heard_wants h still w u (Err hook.NoMemory) told = refl
 
 -- ---- coins that move
 

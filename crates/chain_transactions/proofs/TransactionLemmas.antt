@@ -96,6 +96,15 @@ pub record AppliedSoFar {E : Type 0} (txs : List Tx) (place : ℕ) (old new : Mo
   pub rest : (p : State) → StandsWhole (kept_of old) p
       → (q : State) × StandsWhole (kept_of new) q × (before reports (cleared (txs_applied (drop place txs) q)) ≡ cleared (txs_applied txs p))
 
+pub none_applied : {E : Type 0} (txs : List Tx) (m : Modules E) (reports : List TxReport) → AreSteady m → m.ground.facts ≡ [] → reports ≡ [] → AppliedSoFar txs 0 m m reports
+none_applied txs m reports s n e = record {
+  steady = s;
+  none = n;
+  moment = record { height = refl; time = refl; bond_denom = refl; power_reduction = refl };
+  same_behind = refl;
+  rest = λ p stood. (p, stood, ap (λ (l : List TxReport). before l (cleared (txs_applied txs p))) e);
+}
+
 pub applied_next : {E : Type 0} (txs : List Tx) (place : ℕ) (tx : Tx) (old new last : Modules E) (reports reports2 : List TxReport) (report : TxReport) → place < length txs → tx ≡ get_or txs place tx
     → AppliedSoFar txs place old new reports → ((q : State) → StandsWhole (kept_of new) q → report ≡ (tx_applied tx q).report)
     → ((q : State) → StandsWhole (kept_of new) q → StandsWhole (kept_of last) (without_facts (tx_applied tx q).state))

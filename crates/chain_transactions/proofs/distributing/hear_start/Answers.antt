@@ -1,6 +1,7 @@
-use Rattle.std.proofs.Common.{true, false, refl}
-use Rattle.base_roles.{specs.{Owing.Lists, World.modified}, proofs.ListenLemmas.{quiet_may, quiet_leaves}}
-use Rattle.chain_modules.{specs.{declared.modules.Modules.Modules, Kept.ground_of}, proofs.OverheardLemmas.listened_ok}
+use Rattle.std.proofs.Common.{◌≡◌, true, false, refl}
+use Rattle.base_roles.{specs.{Owing.Lists, World.modified}, proofs.ListenLemmas.quiet_may}
+use Rattle.chain_modules.specs.{declared.modules.Modules.Modules, Kept.ground_of}
+use Rattle.chain_modules.proofs.OverheardLemmas.{listened, listened_ok}
 use Rattle.chain_transactions.proofs.GoLemmas.{all_on, heard_kept, heard_wants}
 use Rattle.chain_transactions.proofs.distributing.hear_start.Goals as goal
 
@@ -14,22 +15,24 @@ after_delegation_modified-requires g c =
 pub returns-clause-kept : goal.returns-clause-kept
 returns-clause-kept g c =
     let a = c.args in
+    let hook = modified a.v.now a.delegator.now a.shares in
     let old : Modules g.row.E.Denot = a.modules.now in
     let after = c.after_delegation_modified.new in
     let new : Modules g.row.E.Denot = record { ground = after.g; stakes = old.stakes; hooks = record { first = record { hooks = old.hooks.first.hooks; listener = after.self }; second = old.hooks.second } } in
-    heard_kept old new refl refl refl c.after_delegation_modified.result
-    (quiet_leaves g.E.StakingHooks.tells g.met.E.StakingHooks.lawful g.met.E.Extra.listens.quiet _ _ (g.met.E.Extra.listens.some old.hooks.first.listener) (modified a.v.now a.delegator.now a.shares) (ground_of old) (ground_of new)
-    c.after_delegation_modified.result c.after_delegation_modified.ensures.told)
+    heard_kept old new (g.E.Extra.hears (g.E.Extra.heard old.hooks.first.listener) hook (ground_of old)) (λ p. g.E.Extra.heard after.self ≡ p) refl refl refl c.after_delegation_modified.result
+    (listened g.E.Extra.hears g.met.E.StakingHooks.lawful g.met.E.Extra.listens old.hooks.first.listener after.self (g.E.Extra.heard old.hooks.first.listener) hook (ground_of old) (ground_of new) c.after_delegation_modified.result refl
+    c.after_delegation_modified.ensures.told)
 
 pub returns-clause-fault : goal.returns-clause-fault
 returns-clause-fault g c =
     let a = c.args in
+    let hook = modified a.v.now a.delegator.now a.shares in
     let old : Modules g.row.E.Denot = a.modules.now in
     let after = c.after_delegation_modified.new in
     let new : Modules g.row.E.Denot = record { ground = after.g; stakes = old.stakes; hooks = record { first = record { hooks = old.hooks.first.hooks; listener = after.self }; second = old.hooks.second } } in
-    heard_wants (ground_of old) (ground_of new) c.after_delegation_modified.result
-    (quiet_leaves g.E.StakingHooks.tells g.met.E.StakingHooks.lawful g.met.E.Extra.listens.quiet _ _ (g.met.E.Extra.listens.some old.hooks.first.listener) (modified a.v.now a.delegator.now a.shares) (ground_of old) (ground_of new)
-    c.after_delegation_modified.result c.after_delegation_modified.ensures.told)
+    heard_wants (g.E.Extra.hears (g.E.Extra.heard old.hooks.first.listener) hook (ground_of old)) (λ p. g.E.Extra.heard after.self ≡ p) (ground_of old) (ground_of new) c.after_delegation_modified.result
+    (listened g.E.Extra.hears g.met.E.StakingHooks.lawful g.met.E.Extra.listens old.hooks.first.listener after.self (g.E.Extra.heard old.hooks.first.listener) hook (ground_of old) (ground_of new) c.after_delegation_modified.result refl
+    c.after_delegation_modified.ensures.told)
 
 pub returns-clause-go_on : goal.returns-clause-go_on
 returns-clause-go_on g c =

@@ -10,8 +10,7 @@ pub loop-place-preserved : goal.loop-place-preserved
 loop-place-preserved g c =
     let so =
     one_more c.args.messages.now c.loop-place.place c.index-messages-place.result c.args.modules.now c.loop-place.modules c.loop-place-test.true c.index-messages-place.is c.loop-place.invariant.0
-    c.apply_message.new.modules c.in-Ok.ensures.ends c.in-Ok.ensures.steady c.apply_message.ensures.go_on in
-    (
+    c.apply_message.new.modules c.in-Ok.ensures.ends c.in-Ok.ensures.steady c.apply_message.ensures.go_on in (
       so,
       c.apply_message.ensures.listener ∙ c.loop-place.invariant.1,
       one_heard g.E.Extra.heard g.E.Extra.hears c.args.messages.now c.loop-place.place c.index-messages-place.result c.args.modules.now c.loop-place.modules c.apply_message.new.modules c.loop-place-test.true c.index-messages-place.is c.loop-place.invariant.2 c.in-Ok.ensures.heard,
