@@ -163,6 +163,9 @@ tries = []
 for end in sorted(examples.glob("*.end")):
     is_whole = end.read_text().split()[0] == "0"
     tries += [(words, b"", 0 if is_whole else 2, "an example") for words in commands(str(end.with_suffix(".out")))]
+for end in sorted(pathlib.Path("cases").glob("params-*.end")):
+    if end.read_text().split()[0] == "0":
+        tries += [(words, b"", 0, "a run whose parameters change") for words in commands(str(end.with_suffix(".out")))]
 if built:
     given = tried_here(["long_run.py", "100"])[1]
     status, out, err = ran([built, "-", "replay"], given)
@@ -187,6 +190,22 @@ answer = b"".join(text for text in texts if b'"kind":"account"' in text)
 following = whole_reports["an output and its continuation"][len(life):]
 status, out, err = tried_here(["reconcile.py", "5", "6", "-", *addresses], answer + following)
 ask(status == 0 and b"report report" in out, f"reconcile.py ended with {status} on answers and what follows: {err}")
+
+# ---- statements beside an output
+
+sheet = ["tax_sheet.py", addresses[2], str(examples / "life.out")]
+statements = (recipes / "life.statements.jsonl").read_text().splitlines(keepends=True)
+plain = tried_here(sheet)[1].decode().splitlines()
+with tempfile.TemporaryDirectory() as room:
+    path = pathlib.Path(room) / "statements"
+    for made, more, ending in ((statements, 5, 0), (statements[:1], 4, 0), (statements * 2, 5, 0), ([], 0, 0), (["{}\n"], 0, 2),
+                               ([text.replace('"height":2', '"height":3') for text in statements[:1]], 0, 0)):
+        path.write_text("".join(made))
+        status, out, err = tried_here([*sheet, f"statements={path}"])
+        rows = out.decode().splitlines()
+        others = [row for row in rows if ",stated " not in row]
+        ask(status == ending and (status or others == plain and len(rows) == len(plain) + more),
+            f"tax_sheet.py with {len(made)} statements ended with {status}, and has {len(rows)} rows: {err}")
 
 # ---- lines that were changed by one unit
 

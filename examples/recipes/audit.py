@@ -295,6 +295,9 @@ class Audit:
 
     on_unjailed = on_jailed
 
+    def on_params(self, line):  # no number that is followed here depends on a parameter
+        order(line["authority"])
+
     def on_tombstoned(self, line):
         self.ask(line["validator"] not in self.dead, "tombstoned twice")
         self.ask(self.jail.get(line["validator"], not self.from_start), "tombstoned, and not jailed")

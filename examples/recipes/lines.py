@@ -18,7 +18,7 @@ FACTS = {
     "period": "period ratio validator", "started": "delegator period stake validator",
     "slashed": "burned fraction validator", "paid": "coins delegator reward to validator",
     "commission": "coins to validator", "status": "status validator",
-    "jailed": "validator", "unjailed": "validator", "tombstoned": "validator", "removed": "validator",
+    "jailed": "validator", "unjailed": "validator", "tombstoned": "validator", "removed": "validator", "params": "authority",
 }
 OUTCOMES = {"accepted": "tx", "refused": "number tx"}
 REPORT = {  # in the order of the report
@@ -33,7 +33,7 @@ PLACES = {kind: place for place, kind in enumerate(REPORT)}
 MEMBERS = {kind: frozenset(("kind " + names).split()) for kind, names in REPORT.items()}
 MEMBERS |= {kind: frozenset(("height kind " + names).split()) for kind, names in (FACTS | OUTCOMES).items()}
 MEMBERS |= {"genesis": frozenset(("height", "kind", "supply")), "block": frozenset(("height", "kind", "time"))}
-MORE = {"refused": ({"msg"}, {"msg", "until"}, {"msg", "a", "b", "c", "over"}), "pending": ({"limit"},)}
+MORE = {"refused": ({"msg"}, {"msg", "until"}, {"msg", "member"}, {"msg", "a", "b", "c", "over"}), "pending": ({"limit"},)}
 
 
 def stop(text):

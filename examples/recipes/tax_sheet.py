@@ -4,6 +4,7 @@
 Who wants it: whoever declares what an address earned, and a program for taxes that reads CSV.
 One command:  python3 tax_sheet.py ADDRESS run.out            (`-` for standard input)
               python3 tax_sheet.py ADDRESS run.out run.jsonl  (with the input beside it; see below)
+              python3 tax_sheet.py ADDRESS run.out statements=FILE        (with reward statements; in front of run.jsonl too)
 What comes out, for the third user of the example `life.out`:
     time,height,what,in,out,aside,denom,other
     2024-01-01T00:00:05Z,1,fee,,300,,uatom,
@@ -11,15 +12,20 @@ What comes out, for the third user of the example `life.out`:
 `aside` is what did not pass through it: a reward that went to another payee, the part of a slash that its stake bore
 (cut to whole units), and at a report its balance and what is pending.
 
+With reward statements, a line each, a payment that has one has rows for what it was before whole coins were paid,
+between which bounds sharing each block's fees at once would put it, and the slack of rounding. Whether a statement is
+right is another question: `check_statement.py`.
+
 A refusal names nobody: it is told of the payer of its fee, so one without a fee is told only with the input beside
 the output, as is what a slash takes of a delegation of the genesis. Burns of unbonding entries name no delegator and
 are in no sheet; what is left of an entry is the row `unbonded`.
 """
 import csv
+import json
 import sys
 
 from lines import COLLECTOR, DISTRIBUTION, MODULES, NOT_BONDED, ONE, Input, Stakes
-from lines import bare, lines, run, stop, units, shown, whole
+from lines import bare, lines, opened, run, stop, units, shown, whole
 
 
 def word(account, is_given):
@@ -31,8 +37,22 @@ def word(account, is_given):
     return "unbonded" if account == NOT_BONDED else "pool spending"
 
 
+def statements_of(name):
+    """The statements of a file, by what they are of: a delegator, a validator and a height, each in their order."""
+    made = {}
+    for number, line in enumerate(opened(name), 1):
+        try:
+            s = json.loads(line)
+            [units(s[member]) for member in ("reward", "low", "high", "slack")]
+            made.setdefault((s["delegator"], s["validator"], s["height"]), []).append(s)
+        except (ValueError, TypeError, KeyError):
+            stop(f"{name}: line {number} is no statement")
+    return made
+
+
 class Sheet:
-    def __init__(self, address, given):
+    def __init__(self, address, given, statements):
+        self.statements = statements
         self.address, self.given, self.out = address, given, csv.writer(sys.stdout, lineterminator="\n")
         self.time = self.height = ""
         self.payer, self.waiting = None, {}  # who paid this transaction's fee; coins whose reason comes a line later
@@ -77,7 +97,18 @@ class Sheet:
             self.row(whose, "in", whole(line["coins"]), line["validator"])
         elif line["delegator"] == self.address:
             self.row(f"reward to {line['to']}", "aside", whole(line["coins"]), line["validator"])
+        if self.address in (line["to"], line["delegator"]):
+            self.state(line)
         self.waiting = {}
+
+    def state(self, line):
+        """The statement of a payment, where there is one: the first of its height whose reward it is."""
+        made = self.statements.get((line["delegator"], line["validator"], line["height"]), [])
+        for s in [s for s in made if units(s["reward"]) == units(line["reward"])][:1]:
+            made.remove(s)
+            for member, what in ("reward", "reward"), ("low", "at least"), ("high", "at most"), ("slack", "slack"):
+                coins = {denom: shown(amount) for denom, amount in units(s[member]).items()}
+                self.row("stated " + what, "aside", coins, line["validator"])
 
     def commission(self, line):
         if line["to"] == self.address:
@@ -107,10 +138,12 @@ class Sheet:
 
 
 def main():
-    if len(sys.argv) not in (3, 4):
-        stop("usage: tax_sheet.py ADDRESS OUTPUT [INPUT]")
-    sheet = Sheet(sys.argv[1], Input(sys.argv[3]) if len(sys.argv) == 4 else None)
-    for line in lines(sys.argv[2]):
+    words = [word for word in sys.argv[1:] if not word.startswith("statements=")]
+    files = [word.split("=", 1)[1] for word in sys.argv[1:] if word.startswith("statements=")]
+    if len(words) not in (2, 3) or len(files) > 1:
+        stop("usage: tax_sheet.py ADDRESS OUTPUT [statements=FILE] [INPUT]")
+    sheet = Sheet(words[0], Input(words[2]) if len(words) == 3 else None, statements_of(files[0]) if files else {})
+    for line in lines(words[1]):
         sheet.take(line)
 
 

@@ -40,7 +40,7 @@ name="${1:--}"
     }
     BEGIN {
         n = split("genesis block accepted refused transfer burn allocated pooled period started slashed paid " \
-            "commission status jailed unjailed tombstoned removed supply account validator delegation pending " \
+            "commission status jailed unjailed tombstoned removed params supply account validator delegation pending " \
             "unbonding redelegation signing pool", names, " ")
         for (i = 1; i <= n; i++) kinds[names[i]] = 1
     }
