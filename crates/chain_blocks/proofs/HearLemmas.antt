@@ -134,7 +134,7 @@ module _ {E P : Type 0} (heard : E → P) (hears : P → Hook → View → P) (l
         after_step heard (AreBegun []) last hears (evidence_step e (unheard w)) (evidence_heard hears e w) WantsMemory ExceedsAs _ tt tt (evidence_unheard hears e w) leads
         (by (equivocation_handled (core_slashes (shared_told hears) plain_slash) window_bans e w.hooks.1 (beside_window w))
         (subst (λ r. AsPlain r) (ap (equivocation_handled (core_slashes (heard_shared hears).told plain_slash) window_bans e w.hooks.1) (same_start s.0.keeps)
-            ∙ equivocation_carried (λ (x : Shared × P). x) [] (shared_told hears) (heard_shared hears).told (shared_heard hears) window_bans e w.hooks.1 (beside_window w))
+        ∙ equivocation_carried (λ (x : Shared × P). x) [] (shared_told hears) (heard_shared hears).told (shared_heard hears) window_bans e w.hooks.1 (beside_window w))
         (handled_plain (core_slashes (heard_shared hears).told plain_slash) new.ground.ctx.params.signed_blocks_window new.hooks.second.kept w.hooks.1 s.0.keeps.signings last.hooks.second.kept (stakes_kept last.stakes) (shared_hold heard last) (ground_of last) e starts_shared
         (Ok done) told)))
       where

@@ -7,10 +7,9 @@ use Rattle.base_messages.specs.declared.genesis.Genesis.{Genesis}
 use Rattle.base_messages.specs.declared.report.BlockReport.{BlockReport}
 use Rattle.rule_modules.specs.Chain.{State}
 use Rattle.rule_machine.specs.GenesisState.{chain_started}
-use Rattle.rule_machine.specs.Listening.{Hearing, heard_in}
 use Rattle.law_runs.specs.Going.{GoesFairly}
 use Rattle.chain_modules.specs.Kept.{KeptState, StandsFor}
-use Rattle.chain_whole.specs.Chained.{Listened}
+use Rattle.chain_whole.specs.Chained.{Chained}
 use Rattle.chain_whole.specs.declared.fault.ChainFault.{ChainFault}
 use Rattle.chain_whole.specs.declared.fault.ChainFault.TheVariants as chain
 
@@ -27,7 +26,7 @@ Starts g facts k =
 
 -- What a block leaves of the chain, whatever the chain stood for: at a fault of the machine nothing
 -- changes; and where memory is wanting it is so from then on. What was settled stays.
-abbrev pub LeavesChain : {P : Type 0} → Listened P → Listened P → Result BlockReport BlockFault → Type 0
+abbrev pub LeavesChain : Chained → Chained → Result BlockReport BlockFault → Type 0
 LeavesChain old new (Ok report) = (old.spent ≡ false) × (new.spent ≡ false) × (new.settled ≡ old.settled)
 LeavesChain old new (Err block.NoMemory) = new.spent ≡ true
 LeavesChain old new (Err fault) = (old.spent ≡ false) × (new ≡ old)
@@ -38,8 +37,3 @@ LeavesChain old new (Err fault) = (old.spent ≡ false) × (new ≡ old)
 abbrev pub GoesOnFairly : State → KeptState → BlockReport → Type 0
 GoesOnFairly p k report =
     (q : State) × StandsFor k q × GoesFairly p (record { report = report; state = q })
-
--- what was heard of a step that gave something
-abbrev pub HasHeard : {F P : Type 0} → Result (Hearing P) F → P → Type 0
-HasHeard (Ok w) p = p ≡ heard_in w
-HasHeard (Err why) p = ⊥

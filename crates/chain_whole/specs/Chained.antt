@@ -5,27 +5,18 @@ use Rattle.base_roles.specs.declared.items.Item.{Item}
 use Rattle.base_roles.specs.declared.items.Item.TheVariants as item
 use Rattle.base_roles.specs.declared.params.Ctx.{Ctx}
 use Rattle.chain_modules.specs.declared.modules.Modules.{Modules}
-use Rattle.chain_modules.specs.Kept.{KeptState, kept_of, listener_of}
+use Rattle.chain_modules.specs.Kept.{KeptState, kept_of}
 use Rattle.chain_modules.specs.Marks.{settled_over}
 
--- what a chain keeps, what it kept at the last settling, whether memory was wanting in a block, and what its listener heard
-pub record Listened (P : Type 0) : Type 0 where
+-- what a chain keeps, what it kept at the last settling, and whether memory was wanting in a block
+pub record Chained : Type 0 where
   pub kept : KeptState
   pub settled : KeptState
   pub spent : Bool
-  pub heard : P
 
--- the same of a chain to which nobody listens
-abbrev pub Chained : Type 0
-Chained = Listened (Unit {0})
-
--- the same of its modules, which were settled over a context, with a listener of which it is told what it heard
-abbrev pub listened : {E P : Type 0} → (E → P) → Modules E → Ctx → Bool → Listened P
-listened heard m settled spent = record { kept = kept_of m; settled = settled_over settled m; spent = spent; heard = heard (listener_of m) }
-
--- and without
+-- the same of its modules, which were settled over a context
 abbrev pub chained : {E : Type 0} → Modules E → Ctx → Bool → Chained
-chained m settled spent = listened (λ l. tt) m settled spent
+chained m settled spent = record { kept = kept_of m; settled = settled_over settled m; spent = spent }
 
 -- the coin of a supply
 unfoldable pub coin_in : Item → Option Coin

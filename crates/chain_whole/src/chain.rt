@@ -8,7 +8,6 @@ ghost use Rattle.base_roles.specs.Items.{AreChanges};
 ghost use Rattle.base_roles.specs.Staked.{validator_at};
 ghost use Rattle.rule_machine.specs.GenesisConditions.{start_condition};
 ghost use Rattle.rule_machine.specs.Items.{IsInKeyOrder, items_of};
-ghost use Rattle.rule_machine.specs.Listening.{block_heard, genesis_heard, hearing};
 ghost use Rattle.rule_machine.specs.Promises.{TxHasCoins};
 ghost use Rattle.rule_machine.specs.Report.{pending_of};
 ghost use Rattle.rule_modules.specs.Chain.{State, shared_in};
@@ -18,8 +17,8 @@ ghost use Rattle.mod_distribution.specs.Items.{AreInOrder};
 ghost use Rattle.chain_modules.specs.Kept.{StandsFor};
 ghost use Rattle.chain_modules.specs.Marks.{AreAtRest, settled_of};
 ghost use Rattle.chain_blocks.specs.Answers.{Applies};
-ghost use Rattle.chain_whole.specs.Answers.{HasHeard, IsGenesisFault, Starts, LeavesChain, GoesOnFairly};
-ghost use Rattle.chain_whole.specs.Chained.{listened};
+ghost use Rattle.chain_whole.specs.Answers.{IsGenesisFault, Starts, LeavesChain, GoesOnFairly};
+ghost use Rattle.chain_whole.specs.Chained.{chained};
 ghost use Rattle.chain_whole.specs.Pending.{ArePendingTo};
 
 use crate::conditions::condition;
@@ -39,7 +38,7 @@ use std::sync::ledger::Blank;
 
 /// A chain, with a listener that hears what staking does and changes nothing of it; mostly there is none. Contracts
 /// see what it keeps and what was settled, which stand for states of the machine, and whether memory was wanting in
-/// a block; of these nothing depends on the listener. They also see what the listener heard.
+/// a block. Of these nothing depends on the listener.
 pub struct Chain<E: Extra = NoHooks> {
     modules: Modules<E>,
     /// The height, time and parameters at the last settling.
@@ -61,11 +60,11 @@ impl<E: Extra> Drop for Chain<E> {
 impl<E: Extra> Model for Chain<E> {
     ghost use Rattle.mod_distribution.specs.Items.{AreInOrder};
     ghost use Rattle.chain_modules.specs.Marks.{AreAtRest, settled_of};
-    ghost use Rattle.chain_whole.specs.Chained.{Listened, listened};
+    ghost use Rattle.chain_whole.specs.Chained.{Chained, chained};
 
-    ghost Value = { Listened E.Heard };
+    ghost Value = { Chained };
 
-    ghost view = { λ c. listened E.heard c.modules c.settled c.spent };
+    ghost view = { λ c. chained c.modules c.settled c.spent };
 
     ghost invariant = { λ c. AreAtRest c.modules × AreInOrder (settled_of c.modules).shared };
 }
@@ -98,7 +97,7 @@ impl<E: Extra> Chain<E> {
     pub fn over(modules: Modules<E>) -> Chain<E>
         requires rest { AreAtRest modules }
         requires order { AreInOrder (settled_of modules).shared }
-        ensures { result ≡ listened E.heard modules modules.ground.ctx false }
+        ensures { result ≡ chained modules modules.ground.ctx false }
     {
         let settled = ctx_of(&modules);
         Chain {
@@ -117,8 +116,6 @@ impl<E: Extra> Chain<E> {
     ) -> Result<(Chain<E>, Facts), ChainFault>
         ensures starts { IfOk result (λ _. start_condition genesis.now ≡ None) }
         ensures chain { IfOk result (λ first. Starts genesis.now first.1 first.0.kept) }
-        ensures heard { IfOk result (λ first. HasHeard
-            (genesis_heard E.hears genesis.now (E.heard listener)) first.0.heard) }
         ensures settled { IfOk result (λ first. first.0.settled ≡ first.0.kept) }
         ensures unspent { IfOk result (λ first. first.0.spent ≡ false) }
         ensures fault { IfErr result (IsGenesisFault (start_condition genesis.now)) }
@@ -131,9 +128,7 @@ impl<E: Extra> Chain<E> {
     }
 
     /// The listener. Takes no memory.
-    pub fn extra(&self) -> &E
-        ensures { E.heard result.now ≡ self.now.heard }
-    {
+    pub fn extra(&self) -> &E {
         &self.modules.hooks.first.listener
     }
 
@@ -155,14 +150,11 @@ impl<E: Extra> Chain<E> {
     /// block's, its time is after the block's, or its power stands for more than 10^18 tokens; `RatioLimit` with
     /// the operands, where a result of the block's beginning would be 10^38 units or more, or a period that it
     /// ends is 10^18; and `NoMemory`. After all but the last nothing has changed; after `NoMemory` each later
-    /// call answers `NoMemory`. The listener has then heard the hooks of the block; after a fault but the last, nothing.
+    /// call answers `NoMemory`.
     pub fn apply_block(&mut self, alloc: Global, block: &Block) -> Result<BlockReport, BlockFault>
         requires height { block.now.height < 2 ^ 63 }
         ensures applies { (p : State) → StandsFor self.old.kept p
             → Applies block.now p self.new.kept result }
-        ensures heard { (p : State) → StandsFor self.old.kept p → OnOk result (HasHeard
-            (block_heard E.hears E.parted E.ended block.now (hearing self.old.heard p))
-            self.new.heard) }
         ensures leaves { LeavesChain self.old self.new result }
         // Where the chain stood for a state of reached accounts, as a genesis starts one, a block pays
         // fairly, and leaves such a state again.
@@ -218,7 +210,6 @@ impl<E: Extra> Chain<E> {
     pub fn settle(&mut self)
         ensures settled { self.new.settled ≡ self.old.kept }
         ensures kept { self.new.kept ≡ self.old.kept }
-        ensures heard { self.new.heard ≡ self.old.heard }
         ensures spent { self.new.spent ≡ self.old.spent }
     {
         settle_modules::<E, Brand>(&mut self.modules, Blank::new(1));

@@ -76,7 +76,6 @@ is_resumed r m l = λ i. record {
   kept = l.kept i;
   settled = (settled_now m l.settled (ap (λ (k : KeptState). k.view.facts) l.kept) ∙ l.kept) i;
   spent = false;
-  heard = tt;
 }
 
 -- ---- states that have items

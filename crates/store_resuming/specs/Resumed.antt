@@ -39,4 +39,4 @@ IsVerdict {E} sound chain.NoMemory = (why : E) × (sound ≡ Err why)
 
 -- the chain of records, settled
 abbrev pub resumed : PlainSeen → Chained
-resumed r = record { kept = kept_in r; settled = kept_in r; spent = false; heard = tt }
+resumed r = record { kept = kept_in r; settled = kept_in r; spent = false }

@@ -50,9 +50,9 @@ loop-vote-preserved g c =
       so,
       g.met.E.Extra.listens.same_marks _ _ (ap (λ x. x.1) e.ground.hook_marks) ∙ c.loop-vote.invariant.1,
       one_each_heard g.E.Extra.heard (vote_heard g.E.Extra.hears) AreBegun c.args.votes.now c.loop-vote.vote-index c.vote-item.result c.args.modules.now new last c.loop-vote-test.true c.vote-item.is c.loop-vote.invariant.2
-      (λ w s. vote_hears g.E.Extra.heard g.E.Extra.hears last new w c.vote-item.result others _ s
-      (vote_leads new last (unheard w) e.ground.undone.ctx c.vote-item.result others s.0 (Ok tt) (vote_apart g.E.Extra.heard g.E.Extra.hears last c.vote-item.result w.hooks.1 _ _ (Ok tt) (c.in_ok-vote.ensures.told (w.hooks.0.0, g.E.Extra.heard (listener_of new)) (s.0.keeps.shared, refl) w.log w.hooks.1 s.0.keeps.signings)))
-      (c.in_ok-vote.ensures.told w.hooks.0 (s.0.keeps.shared, s.1) w.log w.hooks.1 s.0.keeps.signings)),
+          (λ w s. vote_hears g.E.Extra.heard g.E.Extra.hears last new w c.vote-item.result others _ s
+          (vote_leads new last (unheard w) e.ground.undone.ctx c.vote-item.result others s.0 (Ok tt) (vote_apart g.E.Extra.heard g.E.Extra.hears last c.vote-item.result w.hooks.1 _ _ (Ok tt) (c.in_ok-vote.ensures.told (w.hooks.0.0, g.E.Extra.heard (listener_of new)) (s.0.keeps.shared, refl) w.log w.hooks.1 s.0.keeps.signings)))
+          (c.in_ok-vote.ensures.told w.hooks.0 (s.0.keeps.shared, s.1) w.log w.hooks.1 s.0.keeps.signings)),
     )
 
 pub returns-in_err-vote-clause-leads : goal.returns-in_err-vote-clause-leads

@@ -45,9 +45,9 @@ loop-e-preserved g c =
       so,
       g.met.E.Extra.listens.same_marks _ _ (ap (λ x. x.1) e.hook_marks) ∙ c.loop-e.invariant.1,
       one_each_heard g.E.Extra.heard (evidence_heard g.E.Extra.hears) AreThrough c.args.evidence.now c.loop-e.e-index c.e-item.result c.args.modules.now new last c.loop-e-test.true c.e-item.is c.loop-e.invariant.2
-      (λ w s. evidence_hears g.E.Extra.heard g.E.Extra.hears last new w c.e-item.result done s
-      (evidence_leads new last (unheard w) s.0 e.undone.ctx c.e-item.result (Ok done) (evidence_apart g.E.Extra.heard g.E.Extra.hears last c.e-item.result new.hooks.second.kept last.hooks.second.kept _ (Ok done) (told (w.hooks.0.0, g.E.Extra.heard (listener_of new)) (s.0.keeps.shared, refl) w.log)))
-      (told w.hooks.0 (s.0.keeps.shared, s.1) w.log)),
+          (λ w s. evidence_hears g.E.Extra.heard g.E.Extra.hears last new w c.e-item.result done s
+          (evidence_leads new last (unheard w) s.0 e.undone.ctx c.e-item.result (Ok done) (evidence_apart g.E.Extra.heard g.E.Extra.hears last c.e-item.result new.hooks.second.kept last.hooks.second.kept _ (Ok done) (told (w.hooks.0.0, g.E.Extra.heard (listener_of new)) (s.0.keeps.shared, refl) w.log)))
+          (told w.hooks.0 (s.0.keeps.shared, s.1) w.log)),
     )
 
 pub returns-in_err-equivocation-clause-leads : goal.returns-in_err-equivocation-clause-leads

@@ -32,5 +32,4 @@ returns-clause-heard g c =
     let old : Modules g.row.E.Denot = c.args.modules.now in
     let after = c.update.new in
     let new : Modules g.row.E.Denot = record { ground = after.g; stakes = record { staking = after.staking; unbondings = old.stakes.unbondings; redelegations = old.stakes.redelegations }; hooks = after.hooks } in
-    let told = λ h o. c.update.ensures.told h o [] in
-    set_hears g.E.Extra.heard g.E.Extra.hears old new c.update.result told (λ p k. set_leads old new p k c.update.ensures.undone.ctx refl refl c.update.result (set_apart g.E.Extra.heard g.E.Extra.hears old new c.update.result told (held_as old.ground.ctx.params.signed_blocks_window p.hooks) (k.shared, k.signings)))
+    set_hears g.E.Extra.heard g.E.Extra.hears old new c.update.result (λ h o. c.update.ensures.told h o []) (λ p k. set_leads old new p k c.update.ensures.undone.ctx refl refl c.update.result (set_apart g.E.Extra.heard g.E.Extra.hears old new c.update.result (λ h o. c.update.ensures.told h o []) (held_as old.ground.ctx.params.signed_blocks_window p.hooks) (k.shared, k.signings)))
