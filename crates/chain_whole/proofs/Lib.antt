@@ -6,6 +6,7 @@ pub mod DelegatedLemmas
 pub mod EmptyLemmas
 pub mod FairLemmas
 pub mod FoundingLemmas
+pub mod HearLemmas
 pub mod ItemLemmas
 pub mod ListingLemmas
 pub mod OwnLemmas

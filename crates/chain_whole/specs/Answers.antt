@@ -7,6 +7,7 @@ use Rattle.base_messages.specs.declared.genesis.Genesis.{Genesis}
 use Rattle.base_messages.specs.declared.report.BlockReport.{BlockReport}
 use Rattle.rule_modules.specs.Chain.{State}
 use Rattle.rule_machine.specs.GenesisState.{chain_started}
+use Rattle.rule_machine.specs.Listening.{Hearing, heard_in}
 use Rattle.law_runs.specs.Going.{GoesFairly}
 use Rattle.chain_modules.specs.Kept.{KeptState, StandsFor}
 use Rattle.chain_whole.specs.Chained.{Chained}
@@ -37,3 +38,8 @@ LeavesChain old new (Err fault) = (old.spent ≡ false) × (new ≡ old)
 abbrev pub GoesOnFairly : State → KeptState → BlockReport → Type 0
 GoesOnFairly p k report =
     (q : State) × StandsFor k q × GoesFairly p (record { report = report; state = q })
+
+-- what was heard of a step that gave something
+abbrev pub HasHeard : {F P : Type 0} → Result (Hearing P) F → P → Type 0
+HasHeard (Ok w) p = p ≡ heard_in w
+HasHeard (Err why) p = ⊥

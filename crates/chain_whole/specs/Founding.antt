@@ -1,5 +1,5 @@
 -- A genesis half way: what is left of it, and what its next step needs.
-use Rattle.std.specs.Prelude.{◌≡◌, ◌<◌, false, List, None, Result, Ok, All, IsSome}
+use Rattle.std.specs.Prelude.{◌≡◌, ◌<◌, false, List, None, Result, Ok, Err, All, IsSome}
 use Rattle.base_roles.specs.declared.refusal.Refusal.{Refusal}
 use Rattle.base_roles.specs.declared.refusal.Refusal.TheVariants.{Overflow}
 use Rattle.base_types.specs.declared.status.BondStatus.TheVariants.{Unbonded}
@@ -17,6 +17,8 @@ use Rattle.rule_machine.specs.Founding.{IsStarting}
 use Rattle.rule_machine.specs.GenesisConditions.{creation_of, has_pair_twice}
 use Rattle.rule_machine.specs.GenesisState.{delegation_added, empty_over, ground_at_start, stake_added, validator_added}
 use Rattle.chain_modules.specs.declared.modules.Modules.{Modules}
+use Rattle.rule_machine.specs.Listening.{Overheard}
+use Rattle.chain_modules.specs.Heard.{Hears}
 use Rattle.chain_modules.specs.Kept.{KeptState, Keeps, AreSet, IsStakeScene, ground_of, kept_of}
 
 -- staking in its world, over the machine's hooks
@@ -65,6 +67,11 @@ pub record HaveStarted {E : Type 0} (g : Genesis) (m : Modules E) : Type 0 where
   pub world : StakeWorld
   pub keeps : Keeps (kept_of m) (started_with g world)
   pub leads : whole g ≡ Ok world
+
+-- What a step of a genesis gives with what was heard is represented beside these entries, and the listener holds what was heard.
+abbrev pub StakesHeard : {E P : Type 0} → (E → P) → Stakes → Result (World Staked (Overheard P)) Refusal → Modules E → Type 0
+StakesHeard heard c (Ok s) m = Hears heard Keeps m (with_staked c s)
+StakesHeard heard c (Err why) m = ⊥
 
 -- what a step of a genesis gives is represented, beside these entries
 abbrev pub IsAdded : Stakes → Result StakeWorld Refusal → KeptState → Type 0

@@ -4,17 +4,24 @@
 ghost use Rattle.std.specs.Prelude.{◌≡◌, ◌<◌, ◌^◌, [], None, Ok, Err, length, IfOk, IfErr, OnOk};
 ghost use Rattle.base_roles.specs.Holdings.{IsBacked};
 ghost use Rattle.rule_modules.specs.Answers.{StopsForMemory, WantsMemory};
-ghost use Rattle.rule_modules.specs.Chain.{State, chain_told, staked_in};
+ghost use Rattle.base_roles.specs.declared.refusal.Refusal.TheVariants as refused;
+ghost use Rattle.base_roles.specs.Flow.{◌>>=◌, each, stopping};
+ghost use Rattle.base_roles.specs.Staked.{Staked};
+ghost use Rattle.base_roles.specs.World.{World};
+ghost use Rattle.rule_modules.specs.BondedSet.{set_updated};
+ghost use Rattle.rule_modules.specs.Chain.{State, Stakes, chain_told, staked_in, with_staked};
 ghost use Rattle.mod_bank.specs.Booked.{holding, new_book};
 ghost use Rattle.rule_machine.specs.Genesis.{held_at_start};
 ghost use Rattle.rule_machine.specs.GenesisConditions.{start_condition, accounts_at_start, creation_of};
-ghost use Rattle.rule_machine.specs.GenesisState.{validator_added, delegation_added};
+ghost use Rattle.rule_machine.specs.GenesisState.{validator_added, delegation_added, stake_added};
+ghost use Rattle.rule_machine.specs.Listening.{Overheard, genesis_heard, overheard_told};
 ghost use Rattle.rule_machine.specs.Promises.{IsGoodGenesis};
 ghost use Rattle.mod_distribution.specs.Items.{AreInOrder};
-ghost use Rattle.chain_modules.specs.Kept.{Keeps, kept_of, parts_of, IsStakeScene};
+ghost use Rattle.chain_modules.specs.Heard.{Hears};
+ghost use Rattle.chain_modules.specs.Kept.{Keeps, kept_of, listener_of, parts_of, IsStakeScene};
 ghost use Rattle.chain_modules.specs.Marks.{GoOn, AreAtRest, marks_of, no_marks, settled_of};
-ghost use Rattle.chain_whole.specs.Answers.{Starts};
-ghost use Rattle.chain_whole.specs.Founding.{AreAdding, HaveStarted, IsEmpty, IsAdded, IsNextValidator, IsNextDelegation, delegations_left, set_left};
+ghost use Rattle.chain_whole.specs.Answers.{HasHeard, Starts};
+ghost use Rattle.chain_whole.specs.Founding.{AreAdding, HaveStarted, IsEmpty, IsAdded, IsNextValidator, IsNextDelegation, delegations_left, set_left, StakesHeard};
 
 use crate::accounts::holders;
 use crate::fault::ChainFault;
@@ -44,6 +51,8 @@ pub(crate) fn start<E: Extra, L: Ledger>(
     requires some { 0 < L.parts }
     requires starts { start_condition genesis.now ≡ None }
     ensures started { IfOk result (λ first. Starts genesis.now first.1 (kept_of first.0)) }
+    ensures heard { IfOk result (λ first. HasHeard
+        (genesis_heard E.hears genesis.now (E.heard listener)) (E.heard (listener_of first.0))) }
     ensures rest { IfOk result (λ first. AreAtRest first.0) }
     ensures settled { IfOk result (λ first. settled_of first.0 ≡ parts_of first.0) }
     ensures order { IfOk result (λ first. AreInOrder (settled_of first.0).shared) }
@@ -83,6 +92,7 @@ fn empty_modules<E: Extra, L: Ledger>(
     requires starts { start_condition genesis.now ≡ None }
     ensures empty { IfOk result (IsEmpty genesis.now) }
     ensures unmarked { IfOk result (λ modules. marks_of modules ≡ no_marks) }
+    ensures listener { IfOk result (λ modules. listener_of modules ≡ listener) }
     ensures fault { IfErr result (λ fault. fault ≡ ChainFault.NoMemory) }
 {
     let bank = start_book(alloc, genesis, steps)?;
@@ -109,6 +119,9 @@ fn found<E: Extra, L: Ledger>(
     requires empty { IsEmpty genesis.now modules.old }
     requires unmarked { marks_of modules.old ≡ no_marks }
     ensures started { IfOk result (λ facts. Starts genesis.now facts (kept_of modules.new)) }
+    ensures heard { IfOk result (λ _. HasHeard
+        (genesis_heard E.hears genesis.now (E.heard (listener_of modules.old)))
+        (E.heard (listener_of modules.new))) }
     ensures rest { IfOk result (λ _. AreAtRest modules.new) }
     ensures settled { IfOk result (λ _. settled_of modules.new ≡ parts_of modules.new) }
     ensures order { IfOk result (λ _. AreInOrder (settled_of modules.new).shared) }
@@ -202,6 +215,10 @@ fn add_stake<E: Extra, L: Ledger>(
     requires good { IsGoodGenesis genesis.now }
     requires empty { IsEmpty genesis.now modules.old }
     ensures started { OnOk result (HaveStarted genesis.now modules.new) }
+    ensures heard { (c : Stakes) (s : World Staked (Overheard E.Heard))
+        → Hears E.heard Keeps modules.old (with_staked c s) → OnOk result (StakesHeard E.heard c
+        (stake_added (overheard_told E.hears) genesis.now s
+        >>= λ t. stopping refused.Overflow (set_updated (overheard_told E.hears) t)) modules.new) }
     ensures go_on { GoOn modules.old modules.new }
     ensures fault { IfErr result (λ fault. fault ≡ ChainFault.NoMemory) }
 {
@@ -224,6 +241,9 @@ fn add_validators<E: Extra, L: Ledger>(
     requires empty { IsEmpty genesis.now modules.old }
     ensures added { OnOk result (AreAdding genesis.now genesis.now.delegations
         (delegations_left genesis.now.delegations) modules.new) }
+    ensures heard { (c : Stakes) (s : World Staked (Overheard E.Heard))
+        → Hears E.heard Keeps modules.old (with_staked c s) → OnOk result (StakesHeard E.heard c
+        (each (validator_added (overheard_told E.hears)) genesis.now.validators s) modules.new) }
     ensures go_on { GoOn modules.old modules.new }
     ensures fault { IfErr result (λ fault. fault ≡ ChainFault.NoMemory) }
 {
@@ -244,6 +264,9 @@ fn add_validator<E: Extra, L: Ledger>(
     requires next { IsNextValidator v.now modules.old }
     ensures added { (p : State) → Keeps (kept_of modules.old) p → OnOk result
         (IsAdded p.mine (validator_added chain_told v.now (staked_in p)) (kept_of modules.new)) }
+    ensures heard { (c : Stakes) (s : World Staked (Overheard E.Heard))
+        → Hears E.heard Keeps modules.old (with_staked c s) → OnOk result (StakesHeard E.heard c
+        (validator_added (overheard_told E.hears) v.now s) modules.new) }
     ensures scene { OnOk result (IsStakeScene modules.new) }
     ensures go_on { GoOn modules.old modules.new }
     ensures fault { IfErr result (λ fault. fault ≡ ChainFault.NoMemory) }
@@ -270,6 +293,9 @@ fn add_delegations<E: Extra, L: Ledger>(
     requires adding { AreAdding genesis.now genesis.now.delegations
         (delegations_left genesis.now.delegations) modules.old }
     ensures added { OnOk result (AreAdding genesis.now [] set_left modules.new) }
+    ensures heard { (c : Stakes) (s : World Staked (Overheard E.Heard))
+        → Hears E.heard Keeps modules.old (with_staked c s) → OnOk result (StakesHeard E.heard c
+        (each (delegation_added (overheard_told E.hears)) genesis.now.delegations s) modules.new) }
     ensures go_on { GoOn modules.old modules.new }
     ensures fault { IfErr result (λ fault. fault ≡ ChainFault.NoMemory) }
 {
@@ -290,6 +316,9 @@ fn add_delegation<E: Extra, L: Ledger>(
     requires next { IsNextDelegation d.now modules.old }
     ensures added { (p : State) → Keeps (kept_of modules.old) p → OnOk result
         (IsAdded p.mine (delegation_added chain_told d.now (staked_in p)) (kept_of modules.new)) }
+    ensures heard { (c : Stakes) (s : World Staked (Overheard E.Heard))
+        → Hears E.heard Keeps modules.old (with_staked c s) → OnOk result (StakesHeard E.heard c
+        (delegation_added (overheard_told E.hears) d.now s) modules.new) }
     ensures scene { OnOk result (IsStakeScene modules.new) }
     ensures go_on { GoOn modules.old modules.new }
     ensures fault { IfErr result (λ fault. fault ≡ ChainFault.NoMemory) }

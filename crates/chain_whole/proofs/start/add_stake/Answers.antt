@@ -1,7 +1,7 @@
 use Rattle.std.proofs.Common.{◌∙◌, sym, ap}
 use Rattle.base_roles.specs.declared.params.Ctx.{Ctx}
 use Rattle.chain_modules.{specs.Kept.kept_of, proofs.MarkLemmas.then_on}
-use Rattle.chain_whole.proofs.FoundingLemmas.{set_made, set_sure}
+use Rattle.chain_whole.proofs.{HearLemmas.stake_heard, FoundingLemmas.{set_made, set_sure}}
 use Rattle.chain_whole.proofs.start.add_stake.Goals as goal
 
 pub add_validators-requires-clause-starts : goal.add_validators-requires-clause-starts
@@ -33,3 +33,7 @@ pub returns-in-Err-clause-go_on : goal.returns-in-Err-clause-go_on
 returns-in-Err-clause-go_on g c =
     then_on c.args.modules.now c.add_delegations.new.modules c.update_set.new.modules
     (then_on c.args.modules.now c.add_validators.new.modules c.add_delegations.new.modules c.add_validators.ensures.go_on c.add_delegations.ensures.go_on) c.update_set.ensures.go_on
+
+pub returns-in-Ok-clause-heard : goal.returns-in-Ok-clause-heard
+returns-in-Ok-clause-heard g c =
+    stake_heard g.E.Extra.heard g.E.Extra.hears c.args.genesis.now c.args.modules.now c.add_validators.new.modules c.add_delegations.new.modules c.update_set.new.modules c.in_ok-add_validators.ensures.heard c.in_ok-add_delegations.ensures.heard c.in-Ok.ensures.heard

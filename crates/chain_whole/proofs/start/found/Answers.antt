@@ -1,6 +1,8 @@
 use Rattle.std.proofs.Common.{◌∙◌, sym, subst}
 use Rattle.mod_distribution.specs.Items.{AreInOrder}
-use Rattle.chain_modules.{specs.Kept.{Parts, kept_of}, proofs.MarkLemmas.marks_behind}
+use Rattle.rule_machine.specs.Listening.{genesis_heard}
+use Rattle.chain_modules.{specs.Kept.{Parts, kept_of, listener_of}, proofs.MarkLemmas.marks_behind}
+use Rattle.chain_whole.{specs.Answers.HasHeard, proofs.HearLemmas.genesis_hears}
 use Rattle.chain_whole.proofs.StartedLemmas.{at_rest, good_start, once_cleared, starts}
 use Rattle.chain_whole.proofs.start.found.Goals as goal
 
@@ -24,3 +26,8 @@ returns-clause-rest g c =
 
 pub returns-clause-order : goal.returns-clause-order
 returns-clause-order g c = subst (λ (p : Parts). AreInOrder p.shared) (sym c.settle.ensures.settled) c.ordered.ensures
+
+pub returns-clause-heard : goal.returns-clause-heard
+returns-clause-heard g c =
+    subst (λ l. HasHeard (genesis_heard g.E.Extra.hears c.args.genesis.now (g.E.Extra.heard (listener_of c.args.modules.now))) (g.E.Extra.heard l)) (sym c.settle.ensures.listener)
+    (genesis_hears g.E.Extra.heard g.E.Extra.hears c.args.genesis.now c.args.modules.now c.add_stake.new.modules c.requires.empty.keeps c.in_ok-add_stake.ensures.heard)
