@@ -5,7 +5,7 @@ use Rattle.base_roles.specs.declared.refusal.Refusal.TheVariants.{Overflow}
 use Rattle.base_types.specs.declared.status.BondStatus.TheVariants.{Unbonded}
 use Rattle.base_roles.specs.Staked.{Staked, delegation, validator_at, validator_by_cons}
 use Rattle.base_roles.specs.Flow.{◌>>=◌, each, stopping}
-use Rattle.base_roles.specs.World.{World}
+use Rattle.base_roles.specs.World.{View, Hook, World}
 use Rattle.base_messages.specs.declared.genesis.Genesis.{Genesis}
 use Rattle.base_messages.specs.declared.genesis.GenesisDelegation.{GenesisDelegation}
 use Rattle.base_messages.specs.declared.genesis.GenesisValidator.{GenesisValidator}
@@ -17,7 +17,7 @@ use Rattle.rule_machine.specs.Founding.{IsStarting}
 use Rattle.rule_machine.specs.GenesisConditions.{creation_of, has_pair_twice}
 use Rattle.rule_machine.specs.GenesisState.{delegation_added, empty_over, ground_at_start, stake_added, validator_added}
 use Rattle.chain_modules.specs.declared.modules.Modules.{Modules}
-use Rattle.rule_machine.specs.Listening.{Overheard}
+use Rattle.rule_machine.specs.Listening.{Overheard, overheard_told}
 use Rattle.chain_modules.specs.Heard.{Hears}
 use Rattle.chain_modules.specs.Kept.{KeptState, Keeps, AreSet, IsStakeScene, ground_of, kept_of}
 
@@ -67,6 +67,10 @@ pub record HaveStarted {E : Type 0} (g : Genesis) (m : Modules E) : Type 0 where
   pub world : StakeWorld
   pub keeps : Keeps (kept_of m) (started_with g world)
   pub leads : whole g ≡ Ok world
+
+-- the validators, the delegations and the bonded set of a genesis, with what is heard of them
+abbrev pub founding_heard : {P : Type 0} → (P → Hook → View → P) → Genesis → World Staked (Overheard P) → Result (World Staked (Overheard P)) Refusal
+founding_heard hears g s = stake_added (overheard_told hears) g s >>= λ t. stopping Overflow (set_updated (overheard_told hears) t)
 
 -- What a step of a genesis gives with what was heard is represented beside these entries, and the listener holds what was heard.
 abbrev pub StakesHeard : {E P : Type 0} → (E → P) → Stakes → Result (World Staked (Overheard P)) Refusal → Modules E → Type 0

@@ -4,16 +4,14 @@
 ghost use Rattle.std.specs.Prelude.{◌≡◌, ◌<◌, ◌^◌, [], None, Ok, Err, length, IfOk, IfErr, OnOk};
 ghost use Rattle.base_roles.specs.Holdings.{IsBacked};
 ghost use Rattle.rule_modules.specs.Answers.{StopsForMemory, WantsMemory};
-ghost use Rattle.base_roles.specs.declared.refusal.Refusal.TheVariants as refused;
-ghost use Rattle.base_roles.specs.Flow.{◌>>=◌, each, stopping};
+ghost use Rattle.base_roles.specs.Flow.{each};
 ghost use Rattle.base_roles.specs.Staked.{Staked};
 ghost use Rattle.base_roles.specs.World.{World};
-ghost use Rattle.rule_modules.specs.BondedSet.{set_updated};
 ghost use Rattle.rule_modules.specs.Chain.{State, Stakes, chain_told, staked_in, with_staked};
 ghost use Rattle.mod_bank.specs.Booked.{holding, new_book};
 ghost use Rattle.rule_machine.specs.Genesis.{held_at_start};
 ghost use Rattle.rule_machine.specs.GenesisConditions.{start_condition, accounts_at_start, creation_of};
-ghost use Rattle.rule_machine.specs.GenesisState.{validator_added, delegation_added, stake_added};
+ghost use Rattle.rule_machine.specs.GenesisState.{validator_added, delegation_added};
 ghost use Rattle.rule_machine.specs.Listening.{Overheard, genesis_heard, overheard_told};
 ghost use Rattle.rule_machine.specs.Promises.{IsGoodGenesis};
 ghost use Rattle.mod_distribution.specs.Items.{AreInOrder};
@@ -21,7 +19,7 @@ ghost use Rattle.chain_modules.specs.Heard.{Hears};
 ghost use Rattle.chain_modules.specs.Kept.{Keeps, kept_of, listener_of, parts_of, IsStakeScene};
 ghost use Rattle.chain_modules.specs.Marks.{GoOn, AreAtRest, marks_of, no_marks, settled_of};
 ghost use Rattle.chain_whole.specs.Answers.{HasHeard, Starts};
-ghost use Rattle.chain_whole.specs.Founding.{AreAdding, HaveStarted, IsEmpty, IsAdded, IsNextValidator, IsNextDelegation, delegations_left, set_left, StakesHeard};
+ghost use Rattle.chain_whole.specs.Founding.{AreAdding, HaveStarted, IsEmpty, IsAdded, IsNextValidator, IsNextDelegation, delegations_left, set_left, founding_heard, StakesHeard};
 
 use crate::accounts::holders;
 use crate::fault::ChainFault;
@@ -217,8 +215,7 @@ fn add_stake<E: Extra, L: Ledger>(
     ensures started { OnOk result (HaveStarted genesis.now modules.new) }
     ensures heard { (c : Stakes) (s : World Staked (Overheard E.Heard))
         → Hears E.heard Keeps modules.old (with_staked c s) → OnOk result (StakesHeard E.heard c
-        (stake_added (overheard_told E.hears) genesis.now s
-        >>= λ t. stopping refused.Overflow (set_updated (overheard_told E.hears) t)) modules.new) }
+        (founding_heard E.hears genesis.now s) modules.new) }
     ensures go_on { GoOn modules.old modules.new }
     ensures fault { IfErr result (λ fault. fault ≡ ChainFault.NoMemory) }
 {
