@@ -58,7 +58,7 @@ never_over-requires g c =
     let k = next.keeps in
     admission_sure old new p k c.in-Err.ensures.goes_on.undone.ctx refl refl c.args.v.now next.sure.0 c.in-Err.fault k.view next.sure.1
     (subst (λ (x : CreateValidator). Leaves (stored hooks_tell.told (new_validator x old.ground.ctx.time) (over old.stakes.staking.staked (held_as old.ground.ctx.params.signed_blocks_window p.hooks) (ground_of old))) new.stakes.staking.staked (hooks_hold new.hooks) (ground_of new) (Err c.in-Err.fault))
-    c.creation_of-m.ensures (stored_apart g.E.Extra.heard g.E.Extra.hears old new _ (Err c.in-Err.fault) c.in-Err.ensures.told (held_as old.ground.ctx.params.signed_blocks_window p.hooks) (k.shared, k.signings)))
+    c.creation_of-m.ensures (stored_apart g.E.Extra.heard g.E.Extra.hears old new (new_validator c.creation_of-m.result old.ground.ctx.time) (Err c.in-Err.fault) c.in-Err.ensures.told (held_as old.ground.ctx.params.signed_blocks_window p.hooks) (k.shared, k.signings)))
 
 pub returns-in-Err-clause-go_on : goal.returns-in-Err-clause-go_on
 returns-in-Err-clause-go_on g c =
