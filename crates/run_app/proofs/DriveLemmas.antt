@@ -1,5 +1,5 @@
 -- Where a run stands, and how it ends.
-use Rattle.std.proofs.Common.{◌⊎◌, inl, inr, ◌≡◌, ◌≢◌, ◌∙◌, ℕ, ◌+◌, ◌<◌, ◌≤◌, List, [], ◌∷◌, ◌++◌, length, Option, Some, None, Result, Err, IfSome, refl, sym, ap, subst, append_assoc, arith, take, drop, length-append, ne_eqb, slice_index_or, false, append-nil, take-append-drop, length-take-le}
+use Rattle.std.proofs.Common.{◌⊎◌, inl, inr, ◌≡◌, ◌≢◌, ◌∙◌, ℕ, ◌+◌, ◌<◌, ◌≤◌, List, [], ◌∷◌, ◌++◌, length, Option, Some, None, IfSome, refl, sym, ap, subst, append_assoc, arith, take, drop, length-append, ne_eqb, slice_index_or, false, append-nil, take-append-drop, length-take-le}
 use Rattle.std.specs.Prelude.{⊤}
 use Rattle.base_bech32.specs.declared.form.Form.{Form}
 use Rattle.base_io.specs.Calls.{Takes, Stays}
@@ -10,7 +10,7 @@ use Rattle.run_app.specs.declared.status.EndStop.{EndStop}
 use Rattle.run_app.specs.{Lines.{whole_from, rest_from, last_line, lines_from, lines_of}, Machine.{Standing, longest}}
 use Rattle.run_app.specs.Runs.{Ran, before, ran_from, AreAnswered, Named, Reported, Lacking, Finished}
 use Rattle.run_app.specs.Outcome.{Ends, HasBegun, RunEnds, answer_from, most_bytes, AreEnded, IsUntroubled}
-use Rattle.run_app.specs.Parts.{Stands, Fed, Finishes, FinishAs, FinishEnds, FinishStops, FinishStatus, status_at_end, PartEnds, PartStops, lines_after, LongOnly, EndLongOnly, WhereWriteAtEnd}
+use Rattle.run_app.specs.Parts.{Stands, Fed, Finishes, FinishAs, FinishEnds, FinishStops, FinishStatus, status_at_end, PartEnds, PartStops, lines_after, LongOnly, EndLongOnly}
 use Rattle.run_app.{specs.{Ending.status_of, Told.{TakesFrom, Told}}, proofs.CutLemmas.{whole-append, lines-append}}
 use Rattle.run_app.proofs.RunLemmas.{fed-append, grows_on, no_growth, stops_along, named_along, wrote_along, unkept_along, held_along, ran-append, answered-append}
 use Rattle.run_app.proofs.PartLemmas.{too_long, none_fed}
@@ -286,21 +286,6 @@ untroubled_run form L first left left' w w' status e calm u r wr k =
     let told = e.3 calm.input calm.left_is in
     untroubled_end form L first calm.input e.0 e.1 e.2 status told.0 e.5 calm.good calm.short u r wr k
 
-abbrev pub Stopped : EndStop → Result (Unit {0}) EndStop
-Stopped stop = Err stop
-
-pub end_cause : (stop : EndStop) (P : Type 0) → WhereWriteAtEnd (Stopped stop) P → status_at_end stop ≡ WriteFault → P
-end_cause (ends.Line (stops.BadInput n fault)) P c h = absurd cc
-end_cause (ends.Line (stops.Long n)) P c h = absurd cc
-end_cause (ends.Line (stops.Ratio n over)) P c h = absurd cc
-end_cause (ends.Line stops.Write) P c h = c
-end_cause (ends.Line stops.Keep) P c h = absurd cc
-end_cause (ends.Line stops.NoMemory) P c h = absurd cc
-end_cause (ends.Lacking n fault) P c h = absurd cc
-end_cause ends.Report P c h = c
-end_cause ends.Flush P c h = c
-end_cause ends.NoMemory P c h = absurd cc
-
 -- ---- a run that has begun
 
 pub begun_by : (stop : LineStop) → HasBegun (status_of stop)
@@ -323,15 +308,3 @@ begun_busy s h e = subst HasBegun e h
 
 pub begun_unkept : (s : Status) → HasBegun s → s ≡ WrongStore false → ⊥
 begun_unkept s h e = subst HasBegun e h
-
-pub end_keep_cause : (stop : EndStop) (P : Type 0) → (Stopped stop ≡ Err (ends.Line stops.Keep) → P) → status_at_end stop ≡ KeepFault → P
-end_keep_cause (ends.Line (stops.BadInput n fault)) P k h = absurd cc
-end_keep_cause (ends.Line (stops.Long n)) P k h = absurd cc
-end_keep_cause (ends.Line (stops.Ratio n over)) P k h = absurd cc
-end_keep_cause (ends.Line stops.Write) P k h = absurd cc
-end_keep_cause (ends.Line stops.Keep) P k h = k refl
-end_keep_cause (ends.Line stops.NoMemory) P k h = absurd cc
-end_keep_cause (ends.Lacking n fault) P k h = absurd cc
-end_keep_cause ends.Report P k h = absurd cc
-end_keep_cause ends.Flush P k h = absurd cc
-end_keep_cause ends.NoMemory P k h = absurd cc

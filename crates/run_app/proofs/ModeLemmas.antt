@@ -1,7 +1,7 @@
 -- How a run of each command ends.
 use Rattle.std.proofs.Common.{◌≡◌, ◌∙◌, ◌⊎◌, inl, inr, ap, sym, subst, refl, arith, ℕ, ◌≤◌, ◌&&◌, nat_le, Bool, true, false, true≢false, List, [], ◌∷◌, ◌++◌, append-nil, bytes_eq, codes, Option, Some, None, Result, Ok, Err, if◌then◌else◌, IsErrOf, IsSome, OnErr, OnOk, option_and_then, option_map}
 use Rattle.std.specs.Prelude.{⊤}
-use Rattle.base_io.specs.{declared.outside.SinkFault.SinkFault, Faults.UnlessFailed, Rows.{Makes, Pair}}
+use Rattle.base_io.specs.{declared.outside.SinkFault.SinkFault, Faults.UnlessFailed, Outside.Rose, Rows.{Makes, Pair}}
 use Rattle.base_io.specs.declared.outside.SinkFault.TheVariants as sink
 use Rattle.base_roles.specs.declared.refusal.Refusal.{Refusal}
 use Rattle.base_messages.specs.declared.faults.BlockFault.{BlockFault}
@@ -18,8 +18,9 @@ use Rattle.run_words.specs.Words.{alone, asking, at_height, begins_with_zero, be
 use Rattle.line_report.specs.declared.question.Query.{Query as Question}
 use Rattle.run_app.specs.declared.status.Status.{Status}
 use Rattle.run_app.specs.declared.status.Status.TheVariants.{Done, Usage, BadInput, Limit, ReadFault, WriteFault, KeepFault, NoMemory, BadStore, WrongStore, NotFound, NoPast}
-use Rattle.run_app.specs.{Machine.not_applied, Kept.{AreLeft, AreSome, AreUntouched, IsUnbegun, UnlessKeepFault}}
-use Rattle.run_app.specs.{Modes.{HasFewBlocks, Tries}, Outcome.{UnlessReadFault, UnlessWriteFault}, Ending.status_of}
+use Rattle.run_app.specs.{Machine.not_applied, Kept.{AreLeft, AreSome, AreUntouched, IsUnbegun}}
+use Rattle.run_app.specs.{Counts.{Moved, is_keep_fault, is_read_fault, is_write_fault}, Ending.status_of}
+use Rattle.run_app.specs.{Modes.{HasFewBlocks, Tries}, Outcome.UnlessWriteFault}
 use Rattle.run_app.specs.Writes.{Adds, IsWritten, Leaves, Writes, status_of_sink}
 
 -- ---- a text that is written
@@ -41,52 +42,26 @@ busy_so (Ok done) e = absurd cc
 busy_so (Err sink.Failed) e = absurd cc
 busy_so (Err sink.NoMemory) e = absurd cc
 
-pub read_so : (r : Result ⊤ SinkFault) → status_of_sink r ≡ ReadFault → ⊥
-read_so (Ok done) e = absurd cc
-read_so (Err sink.Failed) e = absurd cc
-read_so (Err sink.NoMemory) e = absurd cc
+pub read_so : (r : Result ⊤ SinkFault) → is_read_fault (status_of_sink r) ≡ false
+read_so (Ok done) = refl
+read_so (Err sink.Failed) = refl
+read_so (Err sink.NoMemory) = refl
 
-pub keep_so : (r : Result ⊤ SinkFault) → status_of_sink r ≡ KeepFault → ⊥
-keep_so (Ok done) e = absurd cc
-keep_so (Err sink.Failed) e = absurd cc
-keep_so (Err sink.NoMemory) e = absurd cc
+pub keep_so : (r : Result ⊤ SinkFault) → is_keep_fault (status_of_sink r) ≡ false
+keep_so (Ok done) = refl
+keep_so (Err sink.Failed) = refl
+keep_so (Err sink.NoMemory) = refl
 
-pub clean_so : (r : Result ⊤ SinkFault) (P : Type 0) → OnOk r P → status_of_sink r ≡ Done → P
-clean_so (Ok done) P h e = h
-clean_so (Err sink.Failed) P h e = absurd cc
-clean_so (Err sink.NoMemory) P h e = absurd cc
-
-pub cause_so : (r : Result ⊤ SinkFault) (P : Type 0) → (IsErrOf r sink.Failed → P) → status_of_sink r ≡ WriteFault → P
-cause_so (Ok done) P h e = absurd cc
-cause_so (Err sink.Failed) P h e = h refl
-cause_so (Err sink.NoMemory) P h e = absurd cc
-
-pub quiet_so : (r : Result ⊤ SinkFault) (P : Type 0) → UnlessFailed r P → UnlessWriteFault (status_of_sink r) P
-quiet_so (Ok done) P h = h
-quiet_so (Err sink.Failed) P h = tt
-quiet_so (Err sink.NoMemory) P h = h
+pub writes_so : (r : Result ⊤ SinkFault) (before now : ℕ) (P : Type 0) → OnOk r P → (IsErrOf r sink.Failed → Rose before now) → UnlessFailed r (now ≡ before) → Moved (is_write_fault (status_of_sink r)) before now × (status_of_sink r ≡ Done → P)
+writes_so (Ok done) before now P clean cause quiet = (quiet, λ e. clean)
+writes_so (Err sink.Failed) before now P clean cause quiet = (cause refl, λ e. absurd cc)
+writes_so (Err sink.NoMemory) before now P clean cause quiet = (quiet, λ e. absurd cc)
 
 -- nothing was written
 pub nothing : (w : Option (List ℕ)) (P : List ℕ → Type 0) → P [] → Adds w w P
 nothing w P p = ([], (λ old is. is ∙ ap Some (sym (append-nil old))), p)
 
--- ---- a block's fault
-
--- a run that a block stops ends so
-abbrev pub IsOfBlock : Status → Type 0
-IsOfBlock Done = ⊥
-IsOfBlock Usage = ⊥
-IsOfBlock (BadInput n fault) = Unit {0}
-IsOfBlock (Limit n kind) = Unit {0}
-IsOfBlock ReadFault = ⊥
-IsOfBlock WriteFault = ⊥
-IsOfBlock KeepFault = ⊥
-IsOfBlock NoMemory = Unit {0}
-IsOfBlock BadStore = ⊥
-IsOfBlock (WrongStore is_empty) = ⊥
-IsOfBlock NotFound = ⊥
-IsOfBlock (NoPast base last) = ⊥
-
+-- the sink was not called, or did not fail
 pub quiet_at : (s : Status) (P : Type 0) → P → UnlessWriteFault s P
 quiet_at Done P p = p
 quiet_at Usage P p = p
@@ -100,36 +75,6 @@ quiet_at BadStore P p = p
 quiet_at (WrongStore is_empty) P p = p
 quiet_at NotFound P p = p
 quiet_at (NoPast base last) P p = p
-
--- the same of a run that did not call its source
-pub quiet_read : (s : Status) (P : Type 0) → P → UnlessReadFault s P
-quiet_read Done P p = p
-quiet_read Usage P p = p
-quiet_read (BadInput n fault) P p = p
-quiet_read (Limit n kind) P p = p
-quiet_read ReadFault P p = tt
-quiet_read WriteFault P p = p
-quiet_read KeepFault P p = p
-quiet_read NoMemory P p = p
-quiet_read BadStore P p = p
-quiet_read (WrongStore is_empty) P p = p
-quiet_read NotFound P p = p
-quiet_read (NoPast base last) P p = p
-
--- the same of a run that did not call its keeper
-pub quiet_keep : (s : Status) (P : Type 0) → P → UnlessKeepFault s P
-quiet_keep Done P p = p
-quiet_keep Usage P p = p
-quiet_keep (BadInput n fault) P p = p
-quiet_keep (Limit n kind) P p = p
-quiet_keep ReadFault P p = p
-quiet_keep WriteFault P p = p
-quiet_keep KeepFault P p = tt
-quiet_keep NoMemory P p = p
-quiet_keep BadStore P p = p
-quiet_keep (WrongStore is_empty) P p = p
-quiet_keep NotFound P p = p
-quiet_keep (NoPast base last) P p = p
 
 -- ---- a trial
 

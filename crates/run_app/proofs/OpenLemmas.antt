@@ -1,15 +1,15 @@
 -- Runs that were to keep a history, and do not begin.
-use Rattle.std.proofs.Common.{◌≡◌, inl, inr, ℕ, List, Option, IfSome, Result, Err, refl, subst, IsErrOf, IsSome}
+use Rattle.std.proofs.Common.{◌≡◌, inl, inr, ℕ, false, List, Option, IfSome, Result, Err, refl, subst, IsErrOf, IsSome}
 use Rattle.base_bech32.specs.declared.form.Form.{Form}
-use Rattle.base_io.specs.Rows.{Pair}
+use Rattle.base_io.specs.{Outside.Rose, Rows.Pair}
 use Rattle.run_words.specs.declared.mode.Mode.{Mode, TheVariants.{Replay, Resume, Query, Tally, Check, Gen, Trial}}
 use Rattle.store_history.specs.{declared.{history.History.History, loading.OpenFault.OpenFault}, History.IsHistory}
 use Rattle.store_history.specs.Opened.{OnLoaded, UnlessFailed}
 use Rattle.store_history.specs.declared.loading.OpenFault.TheVariants as unopened
-use Rattle.run_app.specs.declared.status.Status.{Status}
-use Rattle.run_app.specs.declared.status.Status.TheVariants.{Done, Usage, ReadFault, WriteFault, KeepFault, BadStore}
-use Rattle.run_app.specs.{Histories.{IsCommitting, IsUnopened, status_of_open}, Kept.UnlessKeepFault, Modes.ModeEnds}
-use Rattle.run_app.{specs.Unkept.ModeUnkept, proofs.ModeLemmas.nothing_done}
+use Rattle.run_app.specs.declared.status.Status.{Status, TheVariants.{Done, Usage, BadStore}}
+use Rattle.run_app.specs.Counts.{Moved, is_keep_fault, is_read_fault, is_write_fault}
+use Rattle.run_app.specs.{Histories.{IsCommitting, IsUnopened, status_of_open}, Modes.ModeEnds, Unkept.ModeUnkept}
+use Rattle.run_app.proofs.ModeLemmas.{nothing_done}
 
 -- how a history was not read
 abbrev unread : OpenFault → Result History OpenFault
@@ -60,27 +60,17 @@ unopened_busy unopened.Failed e = cc
 unopened_busy unopened.BadHistory e = cc
 unopened_busy unopened.NoMemory e = cc
 
-pub unopened_undone : (f : OpenFault) → status_of_open f ≡ Done → ⊥
-unopened_undone unopened.Failed e = cc
-unopened_undone unopened.BadHistory e = cc
-unopened_undone unopened.NoMemory e = cc
+pub unopened_unread : (f : OpenFault) → is_read_fault (status_of_open f) ≡ false
+unopened_unread unopened.Failed = refl
+unopened_unread unopened.BadHistory = refl
+unopened_unread unopened.NoMemory = refl
 
-pub unopened_unread : (f : OpenFault) → status_of_open f ≡ ReadFault → ⊥
-unopened_unread unopened.Failed e = cc
-unopened_unread unopened.BadHistory e = cc
-unopened_unread unopened.NoMemory e = cc
+pub unopened_writes : (f : OpenFault) (count : ℕ) (P : Type 0) → Moved (is_write_fault (status_of_open f)) count count × (status_of_open f ≡ Done → P)
+unopened_writes unopened.Failed count P = (refl, λ e. absurd cc)
+unopened_writes unopened.BadHistory count P = (refl, λ e. absurd cc)
+unopened_writes unopened.NoMemory count P = (refl, λ e. absurd cc)
 
-pub unopened_unwritten : (f : OpenFault) → status_of_open f ≡ WriteFault → ⊥
-unopened_unwritten unopened.Failed e = cc
-unopened_unwritten unopened.BadHistory e = cc
-unopened_unwritten unopened.NoMemory e = cc
-
-pub opened_cause : (f : OpenFault) (P : Type 0) → (IsErrOf (unread f) unopened.Failed → P) → status_of_open f ≡ KeepFault → P
-opened_cause unopened.Failed P cause e = cause refl
-opened_cause unopened.BadHistory P cause e = absurd cc
-opened_cause unopened.NoMemory P cause e = absurd cc
-
-pub opened_quiet : (f : OpenFault) (P : Type 0) → UnlessFailed (unread f) P → UnlessKeepFault (status_of_open f) P
-opened_quiet unopened.Failed P quiet = tt
-opened_quiet unopened.BadHistory P quiet = quiet
-opened_quiet unopened.NoMemory P quiet = quiet
+pub unopened_keeps : (f : OpenFault) (before now : ℕ) → (IsErrOf (unread f) unopened.Failed → Rose before now) → UnlessFailed (unread f) (now ≡ before) → Moved (is_keep_fault (status_of_open f)) before now
+unopened_keeps unopened.Failed before now cause quiet = cause refl
+unopened_keeps unopened.BadHistory before now cause quiet = quiet
+unopened_keeps unopened.NoMemory before now cause quiet = quiet

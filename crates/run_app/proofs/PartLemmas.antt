@@ -9,7 +9,7 @@ use Rattle.run_app.specs.declared.status.LineStop.{LineStop, TheVariants.{BadInp
 use Rattle.run_app.specs.{declared.status.EndStop.EndStop, Lines.{whole_from, rest_from, last_line, lines_from}}
 use Rattle.run_app.specs.Machine.{Standing, Answer, longest, line_answer, genesis_answer}
 use Rattle.run_app.specs.Runs.{before, ran_from, AreAnswered, Named, Wrote, Unkept, Held, Reported, Finished}
-use Rattle.run_app.specs.Parts.{PartEnds, PartStops, Fed, Grows, Took, HasNoEnd, NotAnswered, NotExtended, lines_after, FinishEnds, FinishStops, Finishes, IsOfReport, WhereWriteAtEnd}
+use Rattle.run_app.specs.Parts.{PartEnds, PartStops, Fed, Grows, Took, HasNoEnd, NotAnswered, NotExtended, lines_after, FinishEnds, FinishStops, Finishes, IsOfReport}
 use Rattle.run_app.proofs.CutLemmas.{whole_none, rest_none, whole_one, rest_one, no_end_before, lines-append}
 use Rattle.run_app.proofs.RunLemmas.{ran-append, answered-append, stops_along, fed-append, fed_stops, fed_number, grows_on, no_growth}
 use Rattle.run_app.specs.declared.status.EndStop.TheVariants as ends
@@ -292,29 +292,9 @@ piece_stops form L (Err stop) n s line piece rest n1 s1 line1 w w1 f left none h
 pub nothing_reported : (form : Form) (s : Standing) (written : Option (List ℕ)) → FinishStops form untold 1 s [] written written ends.NoMemory
 nothing_reported form s written = ([], no_growth written, inr (record { end = s; answered = (refl, refl); left = tt }))
 
--- ---- causes at the end
+-- ---- counts of faults
 
-pub cause_of_line : (why : LineStop) (P : Type 0) → (◌≡◌ {A = Result (Unit {0}) LineStop} (Err why) (Err Write) → P) → WhereWriteAtEnd {X = Unit {0}} (Err (ends.Line why)) P
-cause_of_line (BadInput n fault) P h = tt
-cause_of_line (Long n) P h = tt
-cause_of_line (Ratio n over) P h = tt
-cause_of_line Write P h = h refl
-cause_of_line Keep P h = tt
-cause_of_line NoMemory P h = tt
-
-pub cause_of_report : (r : Result (Unit {0}) EndStop) (P : Type 0) → IfErr r IsOfReport → (r ≡ Err ends.Report → P) → (r ≡ Err ends.Flush → P) → WhereWriteAtEnd r P
-cause_of_report (Ok x) P of h k = tt
-cause_of_report (Err (ends.Line why)) P of h k = absurd of
-cause_of_report (Err (ends.Lacking n fault)) P of h k = tt
-cause_of_report (Err ends.Report) P of h k = h refl
-cause_of_report (Err ends.Flush) P of h k = k refl
-cause_of_report (Err ends.NoMemory) P of h k = tt
-
--- a count that stood still before rose all in all
 -- a count that has not fallen, and then rose, rose
 pub rose_later : (a b c : ℕ) → a ≤ b → Rose b c → Rose a c
 rose_later a b c le (inl lt) = inl (omega (arith, le, lt))
 rose_later a b c le (inr full) = inr full
-
-pub rose_since : (a b c : ℕ) → b ≡ a → Rose b c → Rose a c
-rose_since a b c still rose = subst (λ (n : ℕ). Rose n c) still rose

@@ -1,5 +1,5 @@
 -- Questions of a past height: what is answered, and when none is.
-use Rattle.std.proofs.Common.{◌≡◌, ◌≢◌, ◌∙◌, ◌⊎◌, inl, inr, true≢false, ℕ, ◌<◌, true, List, [], Option, Some, None, IfSome, Err, refl, sym, ap, subst, arith, IsSome}
+use Rattle.std.proofs.Common.{◌≡◌, ◌≢◌, ◌∙◌, ◌⊎◌, inl, inr, true≢false, ℕ, ◌<◌, true, false, List, [], Option, Some, None, IfSome, Err, refl, sym, ap, subst, arith, IsSome}
 use Rattle.base_bech32.specs.declared.form.Form.{Form}
 use Rattle.base_io.specs.{Changes.Rises, Rows.{Makes, Pair}}
 use Rattle.chain_modules.specs.Kept.{StandsFor}
@@ -16,6 +16,7 @@ use Rattle.store_resuming.specs.Restoring.{InOrder, IsChainOf, IsNoChain, IsUnre
 use Rattle.store_resuming.specs.declared.fault.RestoreFault.TheVariants as fault
 use Rattle.run_app.specs.declared.status.Status.{Status}
 use Rattle.run_app.specs.declared.status.Status.TheVariants.{Done, Usage, BadInput, Limit, ReadFault, WriteFault, KeepFault, NoMemory, BadStore, WrongStore, NotFound, NoPast}
+use Rattle.run_app.specs.Counts.{Moved, is_keep_fault, is_read_fault, is_write_fault}
 use Rattle.run_app.specs.Histories.{AreBadAt, AreRowsAt, AskedAt, FitsPast, IsRefusedAt, IsUnasked, PastAnswers, PastEnds, TellPast, status_of_past}
 use Rattle.run_app.specs.{Resumes.{Answers, IsAnswered, status_of_restore}, Writes.Adds}
 use Rattle.run_app.proofs.ModeLemmas.{written_to_end}
@@ -53,32 +54,27 @@ past_busy past.BadHistory e = cc
 past_busy (past.NoPast base last) e = cc
 past_busy past.NoMemory e = cc
 
-pub past_unread : (f : PastFault) → status_of_past f ≡ ReadFault → ⊥
-past_unread past.BadHistory e = cc
-past_unread (past.NoPast base last) e = cc
-past_unread past.NoMemory e = cc
+pub past_unread : (f : PastFault) → is_read_fault (status_of_past f) ≡ false
+past_unread past.BadHistory = refl
+past_unread (past.NoPast base last) = refl
+past_unread past.NoMemory = refl
 
-pub past_unkept : (f : PastFault) → status_of_past f ≡ KeepFault → ⊥
-past_unkept past.BadHistory e = cc
-past_unkept (past.NoPast base last) e = cc
-past_unkept past.NoMemory e = cc
+pub past_unkept : (f : PastFault) → is_keep_fault (status_of_past f) ≡ false
+past_unkept past.BadHistory = refl
+past_unkept (past.NoPast base last) = refl
+past_unkept past.NoMemory = refl
 
-pub past_undone : (f : PastFault) → status_of_past f ≡ Done → ⊥
-past_undone past.BadHistory e = cc
-past_undone (past.NoPast base last) e = cc
-past_undone past.NoMemory e = cc
-
-pub past_unwritten : (f : PastFault) → status_of_past f ≡ WriteFault → ⊥
-past_unwritten past.BadHistory e = cc
-past_unwritten (past.NoPast base last) e = cc
-past_unwritten past.NoMemory e = cc
+pub past_writes : (f : PastFault) (count : ℕ) (P : Type 0) → Moved (is_write_fault (status_of_past f)) count count × (status_of_past f ≡ Done → P)
+past_writes past.BadHistory count P = (refl, λ e. absurd cc)
+past_writes (past.NoPast base last) count P = (refl, λ e. absurd cc)
+past_writes past.NoMemory count P = (refl, λ e. absurd cc)
 
 -- the chain of rows in memory fails by no keeper
-pub chain_unkept : (stood : List Pair) (e : RestoreFault) → IsNoChain AreOfNone stood e → status_of_restore e ≡ KeepFault → ⊥
-chain_unkept stood fault.Failed none e = none
-chain_unkept stood fault.NoMemory none e = cc
-chain_unkept stood fault.Empty none e = none
-chain_unkept stood fault.Unsound none e = cc
+pub chain_unkept : (stood : List Pair) (e : RestoreFault) → IsNoChain AreOfNone stood e → is_keep_fault (status_of_restore e) ≡ false
+chain_unkept stood fault.Failed none = absurd none
+chain_unkept stood fault.NoMemory none = refl
+chain_unkept stood fault.Empty none = absurd none
+chain_unkept stood fault.Unsound none = refl
 
 -- ---- rows that were not loaded, or are none
 

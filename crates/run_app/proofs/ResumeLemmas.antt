@@ -22,8 +22,8 @@ use Rattle.rule_modules.specs.Chain.{State}
 use Rattle.store_items.specs.Stored.{AreStored, rows_as, rows_in}
 use Rattle.run_app.specs.declared.status.Status.{Status}
 use Rattle.run_app.specs.declared.status.Status.TheVariants.{Done, Usage, BadInput, Limit, ReadFault, WriteFault, KeepFault, NoMemory, BadStore, WrongStore, NotFound, NoPast}
-use Rattle.run_app.specs.{Kept.{AreLeft, Began, BeganOnRows, Keeping, LeftIn, UnlessKeepFault}, Machine.Standing}
-use Rattle.run_app.specs.Outcome.{RunEnds}
+use Rattle.run_app.specs.{Counts.{Moved, is_keep_fault, is_read_fault, is_write_fault}, Machine.Standing}
+use Rattle.run_app.specs.{Kept.{AreLeft, Began, BeganOnRows, Keeping, LeftIn}, Outcome.RunEnds}
 use Rattle.run_app.specs.Resumes.{Answers, AsksCalmly, Asked, FitsState, GoesOn, IsAnswered, IsUnresumed, QueryEnds, ResumeEnds, ResumesCalmly, on_rows_of, status_of_restore}
 use Rattle.run_app.{specs.{Unkept.IsOfNoRows, Writes.{Adds, Writes}}, proofs.DriveLemmas.untroubled_run}
 use Rattle.run_app.proofs.ModeLemmas.{nothing, nothing_done, rows_left, written_to_end}
@@ -196,35 +196,23 @@ unresumed_busy fault.NoMemory e = absurd cc
 unresumed_busy fault.Empty e = absurd cc
 unresumed_busy fault.Unsound e = absurd cc
 
-pub unresumed_undone : (f : RestoreFault) → status_of_restore f ≡ Done → ⊥
-unresumed_undone fault.Failed e = absurd cc
-unresumed_undone fault.NoMemory e = absurd cc
-unresumed_undone fault.Empty e = absurd cc
-unresumed_undone fault.Unsound e = absurd cc
+pub unresumed_unread : (f : RestoreFault) → is_read_fault (status_of_restore f) ≡ false
+unresumed_unread fault.Failed = refl
+unresumed_unread fault.NoMemory = refl
+unresumed_unread fault.Empty = refl
+unresumed_unread fault.Unsound = refl
 
-pub unresumed_unread : (f : RestoreFault) → status_of_restore f ≡ ReadFault → ⊥
-unresumed_unread fault.Failed e = absurd cc
-unresumed_unread fault.NoMemory e = absurd cc
-unresumed_unread fault.Empty e = absurd cc
-unresumed_unread fault.Unsound e = absurd cc
+pub unresumed_writes : (f : RestoreFault) (count : ℕ) (P : Type 0) → Moved (is_write_fault (status_of_restore f)) count count × (status_of_restore f ≡ Done → P)
+unresumed_writes fault.Failed count P = (refl, λ e. absurd cc)
+unresumed_writes fault.NoMemory count P = (refl, λ e. absurd cc)
+unresumed_writes fault.Empty count P = (refl, λ e. absurd cc)
+unresumed_writes fault.Unsound count P = (refl, λ e. absurd cc)
 
-pub unresumed_unwritten : (f : RestoreFault) → status_of_restore f ≡ WriteFault → ⊥
-unresumed_unwritten fault.Failed e = absurd cc
-unresumed_unwritten fault.NoMemory e = absurd cc
-unresumed_unwritten fault.Empty e = absurd cc
-unresumed_unwritten fault.Unsound e = absurd cc
-
-pub unresumed_cause : {X : Type 0} (f : RestoreFault) (P : Type 0) → (IsErrOf (failed {X = X} f) fault.Failed → P) → status_of_restore f ≡ KeepFault → P
-unresumed_cause fault.Failed P h e = h refl
-unresumed_cause fault.NoMemory P h e = absurd cc
-unresumed_cause fault.Empty P h e = absurd cc
-unresumed_cause fault.Unsound P h e = absurd cc
-
-pub unresumed_quiet : (f : RestoreFault) (P : Type 0) → UnlessFailed (failed {X = ⊤} f) P → UnlessKeepFault (status_of_restore f) P
-unresumed_quiet fault.Failed P h = tt
-unresumed_quiet fault.NoMemory P h = h
-unresumed_quiet fault.Empty P h = h
-unresumed_quiet fault.Unsound P h = h
+pub unresumed_keeps : {X : Type 0} (f : RestoreFault) (before now : ℕ) → (IsErrOf (failed {X = X} f) fault.Failed → Rose before now) → UnlessFailed (failed {X = ⊤} f) (now ≡ before) → Moved (is_keep_fault (status_of_restore f)) before now
+unresumed_keeps fault.Failed before now cause quiet = cause refl
+unresumed_keeps fault.NoMemory before now cause quiet = quiet
+unresumed_keeps fault.Empty before now cause quiet = quiet
+unresumed_keeps fault.Unsound before now cause quiet = quiet
 
 -- ---- answers
 

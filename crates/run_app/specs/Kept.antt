@@ -73,8 +73,3 @@ IsUnbegun KeepFault some = Unit {0}
 IsUnbegun NoMemory some = Unit {0}
 IsUnbegun (WrongStore is_empty) some = (is_empty ≡ false) × some
 IsUnbegun _ some = ⊥
-
--- the fact holds, unless the run ended by a fault of the keeper
-abbrev pub UnlessKeepFault : Status → Type 0 → Type 0
-UnlessKeepFault KeepFault P = Unit {0}
-UnlessKeepFault _ P = P

@@ -23,6 +23,11 @@ status_at_end end.Report = WriteFault
 status_at_end end.Flush = WriteFault
 status_at_end end.NoMemory = NoMemory
 
+-- how a run ends whose end came to this
+abbrev pub status_of_end : Result ⊤ EndStop → Status
+status_of_end (Ok done) = Done
+status_of_end (Err stop) = status_at_end stop
+
 -- why a line is not answered that the keeper did not take
 abbrev pub not_kept : KeeperFault → LineStop
 not_kept keep.Failed = stop.Keep
@@ -153,24 +158,6 @@ UnlessWrite (Err stop.Write) P = Unit {0}
 UnlessWrite (Err stop.Keep) P = P
 UnlessWrite (Err stop.NoMemory) P = P
 
--- the fact holds, where the sink failed at the end
-abbrev pub WhereWriteAtEnd : {X : Type 0} → Result X EndStop → Type 0 → Type 0
-WhereWriteAtEnd (Ok x) P = Unit {0}
-WhereWriteAtEnd (Err (end.Line stop.Write)) P = P
-WhereWriteAtEnd (Err (end.Line _)) P = Unit {0}
-WhereWriteAtEnd (Err (end.Lacking n fault)) P = Unit {0}
-WhereWriteAtEnd (Err end.Report) P = P
-WhereWriteAtEnd (Err end.Flush) P = P
-WhereWriteAtEnd (Err end.NoMemory) P = Unit {0}
-
-abbrev pub UnlessWriteAtEnd : {X : Type 0} → Result X EndStop → Type 0 → Type 0
-UnlessWriteAtEnd (Ok x) P = P
-UnlessWriteAtEnd (Err (end.Line stop)) P = UnlessWrite {X = ⊤} (Err stop) P
-UnlessWriteAtEnd (Err (end.Lacking n fault)) P = P
-UnlessWriteAtEnd (Err end.Report) P = Unit {0}
-UnlessWriteAtEnd (Err end.Flush) P = Unit {0}
-UnlessWriteAtEnd (Err end.NoMemory) P = P
-
 -- a fault of the input, as the machine answers it; memory may always be wanting
 abbrev pub IsFault : LineStop → Result Answer LineStop → Type 0
 IsFault stop.NoMemory answer = Unit {0}
@@ -189,11 +176,3 @@ UnlessKeep (Err (stop.Ratio n over)) P = P
 UnlessKeep (Err stop.Write) P = P
 UnlessKeep (Err stop.Keep) P = Unit {0}
 UnlessKeep (Err stop.NoMemory) P = P
-
-abbrev pub UnlessKeepAtEnd : {X : Type 0} → Result X EndStop → Type 0 → Type 0
-UnlessKeepAtEnd (Ok x) P = P
-UnlessKeepAtEnd (Err (end.Line stop)) P = UnlessKeep {X = ⊤} (Err stop) P
-UnlessKeepAtEnd (Err (end.Lacking n fault)) P = P
-UnlessKeepAtEnd (Err end.Report) P = P
-UnlessKeepAtEnd (Err end.Flush) P = P
-UnlessKeepAtEnd (Err end.NoMemory) P = P

@@ -1,11 +1,11 @@
 //! The command `check`: each line of the input is a statement, and is answered by whether it is right.
 
-ghost use Rattle.std.specs.Prelude.{◌≡◌, ◌≤◌, true, IfErr, OnOk, IsErrOf, length};
+ghost use Rattle.std.specs.Prelude.{◌≡◌, ◌≤◌, false, true, IfErr, OnOk, IsErrOf, length};
 ghost use Rattle.base_io.specs.Outside.{Rose};
 ghost use Rattle.run_app.specs.Ballots.{UnlessUnread};
 ghost use Rattle.run_app.specs.Checks.{CheckEnds, ChecksAll, IsChecked, IsUnanswered, not_bounded};
+ghost use Rattle.run_app.specs.Counts.{Moved, is_keep_fault, is_read_fault, is_write_fault};
 ghost use Rattle.run_app.specs.Machine.{longest};
-ghost use Rattle.run_app.specs.Outcome.{UnlessReadFault, UnlessWriteFault};
 ghost use Rattle.run_app.specs.Taking.{MayEnd, UnlessUnwritten};
 
 use crate::line::not_read;
@@ -134,14 +134,10 @@ pub(crate) fn check_all<S: Source, K: Sink>(
     ensures ends { CheckEnds form (S.left source.old) (S.left source.new)
         (K.written sink.old) (K.written sink.new) result }
     ensures busy { result ≡ Status.Usage → ⊥ }
-    ensures keep { result ≡ Status.KeepFault → ⊥ }
-    ensures clean { result ≡ Status.Done → K.clean sink.new ≡ true }
-    ensures read_cause { result ≡ Status.ReadFault
-        → Rose (S.faults source.old) (S.faults source.new) }
-    ensures write_cause { result ≡ Status.WriteFault
-        → Rose (K.faults sink.old) (K.faults sink.new) }
-    ensures read_quiet { UnlessReadFault result (S.faults source.new ≡ S.faults source.old) }
-    ensures write_quiet { UnlessWriteFault result (K.faults sink.new ≡ K.faults sink.old) }
+    ensures reads { Moved (is_read_fault result) (S.faults source.old) (S.faults source.new) }
+    ensures writes { Moved (is_write_fault result) (K.faults sink.old) (K.faults sink.new)
+        × (result ≡ Status.Done → K.clean sink.new ≡ true) }
+    ensures keep { is_keep_fault result ≡ false }
 {
     if let Err(status) = answer_lines(form, alloc, source, sink) {
         return status;

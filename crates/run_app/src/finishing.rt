@@ -1,15 +1,15 @@
 //! The end of the output: the answer to a last line that came without its end, then the report, then the flush.
 
-ghost use Rattle.std.specs.Prelude.{◌≡◌, ◌≤◌, ◌⊎◌, true, None, Err, IfErr, OnOk, IsErrOf, []};
-ghost use Rattle.base_io.specs.Outside.{Rose};
+ghost use Rattle.std.specs.Prelude.{◌≡◌, ◌≤◌, true, None, Err, IfErr, OnOk, []};
+ghost use Rattle.run_app.specs.Counts.{Moved, is_keep_fault, is_write_fault};
 ghost use Rattle.run_app.specs.Lines.{last_line};
 ghost use Rattle.run_app.specs.Kept.{Began, IsLater, Keeping, LeftIn};
 ghost use Rattle.run_app.specs.Machine.{Standing, StandsAt};
-ghost use Rattle.run_app.specs.Parts.{EndLongOnly, IsOfReport, FinishStops, Finishes, UnlessKeepAtEnd, UnlessWriteAtEnd, WhereWriteAtEnd};
+ghost use Rattle.run_app.specs.Parts.{EndLongOnly, IsOfReport, FinishStops, Finishes, status_of_end};
 
 use crate::line::{Buffers, take_line};
 use crate::report::report_text;
-use crate::status::{EndStop, InputFault, LineStop};
+use crate::status::{EndStop, InputFault};
 use base_bech32::Form;
 use base_io::{Keeper, Sink, SinkFault, write_all};
 use chain_whole::Chain;
@@ -23,7 +23,6 @@ fn report<K: Sink>(
     sink: &mut K,
     chain: &Option<Chain>,
 ) -> Result<(), EndStop>
-    ensures clean { OnOk result (K.clean sink.new ≡ true) }
     ensures written { (s : Standing) → StandsAt chain.now s → OnOk result
         (Finishes form (λ _ _. Unit {0}) 1 s [] (K.written sink.old) (K.written sink.new)) }
     ensures stops { (s : Standing) → StandsAt chain.now s → IfErr result
@@ -32,11 +31,8 @@ fn report<K: Sink>(
     // That the genesis is missing takes no memory to tell.
     ensures missing { chain.now ≡ None → result ≡ Err (EndStop.Lacking 1 InputFault.Missing) }
     ensures later { K.faults sink.old ≤ K.faults sink.new }
-    ensures report_cause { IsErrOf result EndStop.Report
-        → Rose (K.faults sink.old) (K.faults sink.new) }
-    ensures flush_cause { IsErrOf result EndStop.Flush
-        → Rose (K.faults sink.old) (K.faults sink.new) }
-    ensures quiet { UnlessWriteAtEnd result (K.faults sink.new ≡ K.faults sink.old) }
+    ensures writes { Moved (is_write_fault (status_of_end result))
+        (K.faults sink.old) (K.faults sink.new) × OnOk result (K.clean sink.new ≡ true) }
 {
     let Some(chain) = chain else {
         return Err(EndStop::Lacking(1, InputFault::Missing));
@@ -74,7 +70,6 @@ pub fn finish<K: Sink, D: Keeper>(
 ) -> Result<(), EndStop>
     requires kept { (b : Began) × (s : Standing) × Keeping b chain.old
         (D.rows keeper.old) (D.is_honest keeper.old) (D.may_leave keeper.old) s }
-    ensures clean { OnOk result (K.clean sink.new ≡ true) }
     ensures done { (b : Began) → (s : Standing) → Keeping b chain.old
         (D.rows keeper.old) (D.is_honest keeper.old) (D.may_leave keeper.old) s
         → OnOk result (Finishes form
@@ -88,14 +83,13 @@ pub fn finish<K: Sink, D: Keeper>(
     ensures long { IfErr result (λ stop. EndLongOnly stop line.now) }
     ensures missing { line.now ≡ [] → chain.old ≡ None
         → result ≡ Err (EndStop.Lacking 1 InputFault.Missing) }
-    ensures later { K.faults sink.old ≤ K.faults sink.new }
-    ensures cause { WhereWriteAtEnd result (Rose (K.faults sink.old) (K.faults sink.new)) }
-    ensures quiet { UnlessWriteAtEnd result (K.faults sink.new ≡ K.faults sink.old) }
-    ensures keeps { IsLater (D.is_honest keeper.old) (D.is_honest keeper.new)
+    ensures sink_later { K.faults sink.old ≤ K.faults sink.new }
+    ensures writes { Moved (is_write_fault (status_of_end result))
+        (K.faults sink.old) (K.faults sink.new) × OnOk result (K.clean sink.new ≡ true) }
+    ensures keeper_later { IsLater (D.is_honest keeper.old) (D.is_honest keeper.new)
         (D.faults keeper.old) (D.faults keeper.new) }
-    ensures keep_cause { IsErrOf result (EndStop.Line LineStop.Keep)
-        → Rose (D.faults keeper.old) (D.faults keeper.new) }
-    ensures keep_quiet { UnlessKeepAtEnd result (D.faults keeper.new ≡ D.faults keeper.old) }
+    ensures keeps { Moved (is_keep_fault (status_of_end result))
+        (D.faults keeper.old) (D.faults keeper.new) }
 {
     if line.is_empty() {
         return report(form, alloc, sink, chain);

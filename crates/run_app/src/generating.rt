@@ -1,17 +1,16 @@
 //! The commands that generate their input: it is written, or a chain takes it and its summary is written. Neither takes
 //! anything from a source.
-ghost use Rattle.std.specs.Prelude.{◌≡◌, ◌≤◌, ℕ, List, Result, Ok, Err, true, IfErr, IfOk};
-ghost use Rattle.base_io.specs.Outside.{Rose};
+ghost use Rattle.std.specs.Prelude.{◌≡◌, ◌≤◌, ℕ, List, Result, Ok, Err, false, true, IfErr, IfOk};
 ghost use Rattle.base_messages.specs.declared.faults.BlockFault.{BlockFault};
 ghost use Rattle.base_roles.specs.declared.refusal.Refusal.{Refusal};
 ghost use Rattle.run_generated.specs.Writing.{generated_text};
 ghost use Rattle.run_trial.specs.Summary.{Stopped};
 ghost use Rattle.run_trial.specs.Trial.{trial_of};
 ghost use Rattle.run_trial.specs.Trying.{IsTrialFault};
+ghost use Rattle.run_app.specs.Counts.{Moved, is_keep_fault, is_read_fault, is_write_fault};
 ghost use Rattle.run_app.specs.Ending.{status_of};
 ghost use Rattle.run_app.specs.Machine.{not_applied};
 ghost use Rattle.run_app.specs.Modes.{Tries};
-ghost use Rattle.run_app.specs.Outcome.{UnlessWriteFault};
 ghost use Rattle.run_app.specs.Writes.{Writes, status_of_sink};
 
 use crate::line::not_applied;
@@ -45,12 +44,10 @@ pub(crate) fn write_generated<K: Sink>(
     ensures ends { Writes (generated_text form seed count) (K.written sink.old) (K.written sink.new)
         result }
     ensures busy { result ≡ Status.Usage → ⊥ }
-    ensures read { result ≡ Status.ReadFault → ⊥ }
-    ensures keep { result ≡ Status.KeepFault → ⊥ }
-    ensures clean { result ≡ Status.Done → K.clean sink.new ≡ true }
-    ensures write_cause { result ≡ Status.WriteFault
-        → Rose (K.faults sink.old) (K.faults sink.new) }
-    ensures write_quiet { UnlessWriteFault result (K.faults sink.new ≡ K.faults sink.old) }
+    ensures read { is_read_fault result ≡ false }
+    ensures keep { is_keep_fault result ≡ false }
+    ensures writes { Moved (is_write_fault result) (K.faults sink.old) (K.faults sink.new)
+        × (result ≡ Status.Done → K.clean sink.new ≡ true) }
 {
     status_of_sink(write_input(form, alloc, sink, seed, count))
 }
@@ -64,12 +61,10 @@ fn write_summary<K: Sink>(sink: &mut K, tried: Result<Vec<u8>, TrialFault>) -> S
     ensures stopped { (line : ℕ) (fault : BlockFault) → tried ≡ Err (TrialFault.Block line fault)
         → result ≡ status_of (not_applied line fault) }
     ensures busy { result ≡ Status.Usage → ⊥ }
-    ensures read { result ≡ Status.ReadFault → ⊥ }
-    ensures keep { result ≡ Status.KeepFault → ⊥ }
-    ensures clean { result ≡ Status.Done → K.clean sink.new ≡ true }
-    ensures write_cause { result ≡ Status.WriteFault
-        → Rose (K.faults sink.old) (K.faults sink.new) }
-    ensures write_quiet { UnlessWriteFault result (K.faults sink.new ≡ K.faults sink.old) }
+    ensures read { is_read_fault result ≡ false }
+    ensures keep { is_keep_fault result ≡ false }
+    ensures writes { Moved (is_write_fault result) (K.faults sink.old) (K.faults sink.new)
+        × (result ≡ Status.Done → K.clean sink.new ≡ true) }
 {
     match tried {
         Ok(summary) => status_of_sink(write_text(sink, &summary)),
@@ -83,12 +78,10 @@ pub(crate) fn write_trial<K: Sink>(alloc: Global, sink: &mut K, seed: u64, count
     requires most { count ≤ 100_000 }
     ensures ends { Tries (trial_of seed count) (K.written sink.old) (K.written sink.new) result }
     ensures busy { result ≡ Status.Usage → ⊥ }
-    ensures read { result ≡ Status.ReadFault → ⊥ }
-    ensures keep { result ≡ Status.KeepFault → ⊥ }
-    ensures clean { result ≡ Status.Done → K.clean sink.new ≡ true }
-    ensures write_cause { result ≡ Status.WriteFault
-        → Rose (K.faults sink.old) (K.faults sink.new) }
-    ensures write_quiet { UnlessWriteFault result (K.faults sink.new ≡ K.faults sink.old) }
+    ensures read { is_read_fault result ≡ false }
+    ensures keep { is_keep_fault result ≡ false }
+    ensures writes { Moved (is_write_fault result) (K.faults sink.old) (K.faults sink.new)
+        × (result ≡ Status.Done → K.clean sink.new ≡ true) }
 {
     write_summary(sink, try_input(alloc, seed, count))
 }

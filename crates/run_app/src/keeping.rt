@@ -2,11 +2,9 @@
 
 ghost use Rattle.std.specs.Prelude.{◌≡◌, false, true, IfSome};
 ghost use Rattle.base_io.specs.Changes.{LeavesRows, Rises};
-ghost use Rattle.base_io.specs.Outside.{Rose};
+ghost use Rattle.run_app.specs.Counts.{Moved, is_keep_fault, is_read_fault, is_write_fault};
 ghost use Rattle.run_app.specs.Histories.{IsCommitting, KeepEnds, status_of_open};
-ghost use Rattle.run_app.specs.Kept.{UnlessKeepFault};
 ghost use Rattle.run_app.specs.Modes.{HasFewBlocks, ModeEnds};
-ghost use Rattle.run_app.specs.Outcome.{UnlessReadFault, UnlessWriteFault};
 ghost use Rattle.run_app.specs.Unkept.{ModeUnkept};
 ghost use Rattle.store_history.specs.Held.{shown, HaveBecome, Knows, ShowsLeft, TakesDistinct};
 ghost use Rattle.store_history.specs.History.{IsHistory};
@@ -60,17 +58,11 @@ fn carry_out_kept<'a, L: Loan, S: Source, K: Sink, D: Keeper>(
     ensures busy { result.0 ≡ Status.Usage → ⊥ }
     ensures unkept { D.keeps keeper.old ≡ false → ModeUnkept mode (S.left source.old)
         (S.left source.new) (K.written sink.old) (K.written sink.new) result.0 }
-    ensures clean { result.0 ≡ Status.Done → K.clean sink.new ≡ true }
-    ensures read_cause { result.0 ≡ Status.ReadFault
-        → Rose (S.faults source.old) (S.faults source.new) }
-    ensures write_cause { result.0 ≡ Status.WriteFault
-        → Rose (K.faults sink.old) (K.faults sink.new) }
-    ensures read_quiet { UnlessReadFault result.0 (S.faults source.new ≡ S.faults source.old) }
-    ensures write_quiet { UnlessWriteFault result.0 (K.faults sink.new ≡ K.faults sink.old) }
+    ensures reads { Moved (is_read_fault result.0) (S.faults source.old) (S.faults source.new) }
+    ensures writes { Moved (is_write_fault result.0) (K.faults sink.old) (K.faults sink.new)
+        × (result.0 ≡ Status.Done → K.clean sink.new ≡ true) }
+    ensures keeps { Moved (is_keep_fault result.0) (D.faults keeper.old) (D.faults result.1.now) }
     ensures honest { D.is_honest result.1.now → D.is_honest keeper.old }
-    ensures keep_cause { result.0 ≡ Status.KeepFault
-        → Rose (D.faults keeper.old) (D.faults result.1.now) }
-    ensures keep_quiet { UnlessKeepFault result.0 (D.faults result.1.now ≡ D.faults keeper.old) }
 {
     let mut over = HistoryKeeper::<D, L>::over(alloc, keeper, history);
     let status = carry_out(form, alloc, mode, source, sink, &mut over);
@@ -95,16 +87,10 @@ pub(crate) fn keep<S: Source, K: Sink, D: Keeper>(
     ensures unkept { D.keeps keeper.old ≡ false → ModeUnkept mode (S.left source.old)
         (S.left source.new) (K.written sink.old) (K.written sink.new) result
         × (result ≡ Status.BadStore → ⊥) }
-    ensures clean { result ≡ Status.Done → K.clean sink.new ≡ true }
-    ensures read_cause { result ≡ Status.ReadFault
-        → Rose (S.faults source.old) (S.faults source.new) }
-    ensures write_cause { result ≡ Status.WriteFault
-        → Rose (K.faults sink.old) (K.faults sink.new) }
-    ensures read_quiet { UnlessReadFault result (S.faults source.new ≡ S.faults source.old) }
-    ensures write_quiet { UnlessWriteFault result (K.faults sink.new ≡ K.faults sink.old) }
-    ensures keep_cause { result ≡ Status.KeepFault
-        → Rose (D.faults keeper.old) (D.faults keeper.new) }
-    ensures keep_quiet { UnlessKeepFault result (D.faults keeper.new ≡ D.faults keeper.old) }
+    ensures reads { Moved (is_read_fault result) (S.faults source.old) (S.faults source.new) }
+    ensures writes { Moved (is_write_fault result) (K.faults sink.old) (K.faults sink.new)
+        × (result ≡ Status.Done → K.clean sink.new ≡ true) }
+    ensures keeps { Moved (is_keep_fault result) (D.faults keeper.old) (D.faults keeper.new) }
 {
     match read_history(alloc, keeper) {
         Ok(history) => {

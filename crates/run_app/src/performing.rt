@@ -1,11 +1,9 @@
 //! What words ask for: a command, in the way that the words before it say.
 
 ghost use Rattle.std.specs.Prelude.{◌≡◌, false, true};
-ghost use Rattle.base_io.specs.Outside.{Rose};
 ghost use Rattle.run_app.specs.Commands.{WayEnds, WayUnkept, kept_way, past_way, way_of};
-ghost use Rattle.run_app.specs.Kept.{UnlessKeepFault};
+ghost use Rattle.run_app.specs.Counts.{Moved, is_keep_fault, is_read_fault, is_write_fault};
 ghost use Rattle.run_app.specs.Modes.{HasFewBlocks};
-ghost use Rattle.run_app.specs.Outcome.{UnlessReadFault, UnlessWriteFault};
 ghost use Rattle.store_history.specs.Held.{TakesDistinct};
 
 use crate::keeping::keep;
@@ -80,16 +78,10 @@ pub(crate) fn perform<S: Source, K: Sink, D: Keeper>(
     ensures busy { result ≡ Status.Usage → ⊥ }
     ensures unkept { D.keeps keeper.old ≡ false → WayUnkept (way_of command) (S.left source.old)
         (S.left source.new) (K.written sink.old) (K.written sink.new) result }
-    ensures clean { result ≡ Status.Done → K.clean sink.new ≡ true }
-    ensures read_cause { result ≡ Status.ReadFault
-        → Rose (S.faults source.old) (S.faults source.new) }
-    ensures write_cause { result ≡ Status.WriteFault
-        → Rose (K.faults sink.old) (K.faults sink.new) }
-    ensures read_quiet { UnlessReadFault result (S.faults source.new ≡ S.faults source.old) }
-    ensures write_quiet { UnlessWriteFault result (K.faults sink.new ≡ K.faults sink.old) }
-    ensures keep_cause { result ≡ Status.KeepFault
-        → Rose (D.faults keeper.old) (D.faults keeper.new) }
-    ensures keep_quiet { UnlessKeepFault result (D.faults keeper.new ≡ D.faults keeper.old) }
+    ensures reads { Moved (is_read_fault result) (S.faults source.old) (S.faults source.new) }
+    ensures writes { Moved (is_write_fault result) (K.faults sink.old) (K.faults sink.new)
+        × (result ≡ Status.Done → K.clean sink.new ≡ true) }
+    ensures keeps { Moved (is_keep_fault result) (D.faults keeper.old) (D.faults keeper.new) }
 {
     match way_of(&command) {
         Way::Plain(mode) => carry_out(command.form, alloc, mode, source, sink, keeper),

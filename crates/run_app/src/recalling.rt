@@ -2,10 +2,8 @@
 
 ghost use Rattle.std.specs.Prelude.{◌≡◌, [], false, true, map};
 ghost use Rattle.base_io.specs.Changes.{pair_of};
-ghost use Rattle.base_io.specs.Outside.{Rose};
+ghost use Rattle.run_app.specs.Counts.{Moved, is_keep_fault, is_read_fault, is_write_fault};
 ghost use Rattle.run_app.specs.Histories.{PastAnswers, PastEnds, status_of_past};
-ghost use Rattle.run_app.specs.Kept.{UnlessKeepFault};
-ghost use Rattle.run_app.specs.Outcome.{UnlessWriteFault};
 ghost use Rattle.run_app.specs.Unkept.{IsOfNoRows};
 ghost use Rattle.run_app.specs.Writes.{Adds};
 ghost use Rattle.store_resuming.specs.Restoring.{InOrder};
@@ -42,12 +40,10 @@ fn answer_at<K: Sink>(
     ensures answers { PastAnswers form height what.now (InOrder (map pair_of rows.now))
         (K.written sink.old) (K.written sink.new) result }
     ensures busy { result ≡ Status.Usage → ⊥ }
-    ensures read { result ≡ Status.ReadFault → ⊥ }
-    ensures keep { result ≡ Status.KeepFault → ⊥ }
-    ensures clean { result ≡ Status.Done → K.clean sink.new ≡ true }
-    ensures write_cause { result ≡ Status.WriteFault
-        → Rose (K.faults sink.old) (K.faults sink.new) }
-    ensures write_quiet { UnlessWriteFault result (K.faults sink.new ≡ K.faults sink.old) }
+    ensures read { is_read_fault result ≡ false }
+    ensures keep { is_keep_fault result ≡ false }
+    ensures writes { Moved (is_write_fault result) (K.faults sink.old) (K.faults sink.new)
+        × (result ≡ Status.Done → K.clean sink.new ≡ true) }
 {
     let stood = match past(alloc, rows, height) {
         Ok(stood) => stood,
@@ -73,17 +69,13 @@ pub(crate) fn answer_past<K: Sink, D: Keeper>(
         (D.rows keeper.old) (D.rows keeper.new) (D.is_honest keeper.new)
         (D.may_leave keeper.old) (D.may_leave keeper.new) result }
     ensures busy { result ≡ Status.Usage → ⊥ }
-    ensures read { result ≡ Status.ReadFault → ⊥ }
+    ensures read { is_read_fault result ≡ false }
+    ensures writes { Moved (is_write_fault result) (K.faults sink.old) (K.faults sink.new)
+        × (result ≡ Status.Done → K.clean sink.new ≡ true) }
+    ensures keeps { Moved (is_keep_fault result) (D.faults keeper.old) (D.faults keeper.new) }
     // One that keeps nothing has no rows.
     ensures unkept { D.keeps keeper.old ≡ false → IsOfNoRows result
         × Adds (K.written sink.old) (K.written sink.new) (λ text. text ≡ []) }
-    ensures clean { result ≡ Status.Done → K.clean sink.new ≡ true }
-    ensures write_cause { result ≡ Status.WriteFault
-        → Rose (K.faults sink.old) (K.faults sink.new) }
-    ensures write_quiet { UnlessWriteFault result (K.faults sink.new ≡ K.faults sink.old) }
-    ensures keep_cause { result ≡ Status.KeepFault
-        → Rose (D.faults keeper.old) (D.faults keeper.new) }
-    ensures keep_quiet { UnlessKeepFault result (D.faults keeper.new ≡ D.faults keeper.old) }
 {
     let rows = match load_rows(keeper) {
         Ok(rows) => rows,

@@ -1,13 +1,11 @@
 //! The commands that go on from what a keeper has.
 
 ghost use Rattle.std.specs.Prelude.{◌≡◌, [], List, ℕ, Option, None, Ok, option_map, true, false, IfOk};
-ghost use Rattle.base_io.specs.Outside.{Rose};
 ghost use Rattle.rule_machine.specs.Report.{report_of};
 ghost use Rattle.chain_modules.specs.Kept.{StandsFor};
 ghost use Rattle.line_report.specs.Asking.{answered_by};
 ghost use Rattle.rule_modules.specs.Chain.{State};
-ghost use Rattle.run_app.specs.Kept.{UnlessKeepFault};
-ghost use Rattle.run_app.specs.Outcome.{UnlessReadFault, UnlessWriteFault};
+ghost use Rattle.run_app.specs.Counts.{Moved, is_keep_fault, is_read_fault, is_write_fault};
 ghost use Rattle.run_app.specs.Resumes.{Answers, QueryEnds, ResumeEnds, status_of_restore};
 ghost use Rattle.run_app.specs.Unkept.{FindsNoRows, IsOfNoRows};
 ghost use Rattle.run_app.specs.Writes.{Adds};
@@ -52,17 +50,11 @@ pub(crate) fn resume<S: Source, K: Sink, D: Keeper>(
     ensures unkept { D.keeps keeper.old ≡ false → FindsNoRows (S.left source.old)
         (S.left source.new) (K.written sink.old) (K.written sink.new) result }
     ensures busy { result ≡ Status.Usage → ⊥ }
-    ensures clean { result ≡ Status.Done → K.clean sink.new ≡ true }
-    ensures read_cause { result ≡ Status.ReadFault
-        → Rose (S.faults source.old) (S.faults source.new) }
-    ensures write_cause { result ≡ Status.WriteFault
-        → Rose (K.faults sink.old) (K.faults sink.new) }
-    ensures read_quiet { UnlessReadFault result (S.faults source.new ≡ S.faults source.old) }
-    ensures write_quiet { UnlessWriteFault result (K.faults sink.new ≡ K.faults sink.old) }
+    ensures reads { Moved (is_read_fault result) (S.faults source.old) (S.faults source.new) }
+    ensures writes { Moved (is_write_fault result) (K.faults sink.old) (K.faults sink.new)
+        × (result ≡ Status.Done → K.clean sink.new ≡ true) }
+    ensures keeps { Moved (is_keep_fault result) (D.faults keeper.old) (D.faults keeper.new) }
     ensures honest { D.is_honest keeper.new → D.is_honest keeper.old }
-    ensures keep_cause { result ≡ Status.KeepFault
-        → Rose (D.faults keeper.old) (D.faults keeper.new) }
-    ensures keep_quiet { UnlessKeepFault result (D.faults keeper.new ≡ D.faults keeper.old) }
 {
     let restored = match restore_with_changes(alloc, keeper) {
         Ok(restored) => restored,
@@ -83,12 +75,10 @@ fn write_told<K: Sink>(sink: &mut K, told: Result<Option<Vec<u8>>, EndStop>) -> 
     // That there are none takes no memory to tell.
     ensures none { told ≡ Ok None → result ≡ Status.NotFound }
     ensures busy { result ≡ Status.Usage → ⊥ }
-    ensures read { result ≡ Status.ReadFault → ⊥ }
-    ensures keep { result ≡ Status.KeepFault → ⊥ }
-    ensures clean { result ≡ Status.Done → K.clean sink.new ≡ true }
-    ensures write_cause { result ≡ Status.WriteFault
-        → Rose (K.faults sink.old) (K.faults sink.new) }
-    ensures write_quiet { UnlessWriteFault result (K.faults sink.new ≡ K.faults sink.old) }
+    ensures read { is_read_fault result ≡ false }
+    ensures keep { is_keep_fault result ≡ false }
+    ensures writes { Moved (is_write_fault result) (K.faults sink.old) (K.faults sink.new)
+        × (result ≡ Status.Done → K.clean sink.new ≡ true) }
 {
     match told {
         Ok(Some(text)) => status_of_sink(write_text(sink, &text)),
@@ -109,12 +99,10 @@ pub(crate) fn write_answer<K: Sink>(
         → Answers (answered_by form (report_of p) what.now)
         (K.written sink.old) (K.written sink.new) result }
     ensures busy { result ≡ Status.Usage → ⊥ }
-    ensures read { result ≡ Status.ReadFault → ⊥ }
-    ensures keep { result ≡ Status.KeepFault → ⊥ }
-    ensures clean { result ≡ Status.Done → K.clean sink.new ≡ true }
-    ensures write_cause { result ≡ Status.WriteFault
-        → Rose (K.faults sink.old) (K.faults sink.new) }
-    ensures write_quiet { UnlessWriteFault result (K.faults sink.new ≡ K.faults sink.old) }
+    ensures read { is_read_fault result ≡ false }
+    ensures keep { is_keep_fault result ≡ false }
+    ensures writes { Moved (is_write_fault result) (K.faults sink.old) (K.faults sink.new)
+        × (result ≡ Status.Done → K.clean sink.new ≡ true) }
 {
     write_told(sink, answer_text(form, alloc, chain, what))
 }
@@ -133,15 +121,11 @@ pub(crate) fn answer<K: Sink, D: Keeper>(
     ensures unkept { D.keeps keeper.old ≡ false → IsOfNoRows result
         × Adds (K.written sink.old) (K.written sink.new) (λ text. text ≡ []) }
     ensures busy { result ≡ Status.Usage → ⊥ }
-    ensures read { result ≡ Status.ReadFault → ⊥ }
-    ensures clean { result ≡ Status.Done → K.clean sink.new ≡ true }
-    ensures write_cause { result ≡ Status.WriteFault
-        → Rose (K.faults sink.old) (K.faults sink.new) }
-    ensures write_quiet { UnlessWriteFault result (K.faults sink.new ≡ K.faults sink.old) }
+    ensures read { is_read_fault result ≡ false }
+    ensures writes { Moved (is_write_fault result) (K.faults sink.old) (K.faults sink.new)
+        × (result ≡ Status.Done → K.clean sink.new ≡ true) }
+    ensures keeps { Moved (is_keep_fault result) (D.faults keeper.old) (D.faults keeper.new) }
     ensures honest { D.is_honest keeper.new → D.is_honest keeper.old }
-    ensures keep_cause { result ≡ Status.KeepFault
-        → Rose (D.faults keeper.old) (D.faults keeper.new) }
-    ensures keep_quiet { UnlessKeepFault result (D.faults keeper.new ≡ D.faults keeper.old) }
 {
     match restore(alloc, keeper) {
         Ok(chain) => write_answer(form, alloc, sink, &chain, what),

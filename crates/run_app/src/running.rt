@@ -6,14 +6,14 @@ ghost use Rattle.base_bech32.specs.declared.form.Form.{Form};
 ghost use Rattle.base_io.specs.Outside.{Rose};
 ghost use Rattle.run_app.specs.Counts.{IsOfWords, Moved, is_keep_fault, is_read_fault, is_write_fault};
 ghost use Rattle.run_app.specs.Lines.{last_line};
-ghost use Rattle.run_app.specs.Kept.{Began, IsLater, Keeping, LeftIn, UnlessKeepFault};
+ghost use Rattle.run_app.specs.Kept.{Began, IsLater, Keeping, LeftIn};
 ghost use Rattle.run_app.specs.Machine.{longest, Standing};
 ghost use Rattle.run_words.specs.Words.{command_of};
 ghost use Rattle.run_app.specs.Commands.{CommandEnds, CommandStops, CommandUnkept, IsUntroubledBy};
 ghost use Rattle.run_app.specs.Modes.{HasFewBlocks, ModeEnds, ReplayEnds};
 ghost use Rattle.store_history.specs.Held.{TakesDistinct};
 ghost use Rattle.run_app.specs.Unkept.{ModeUnkept};
-ghost use Rattle.run_app.specs.Outcome.{HasBegun, RunEnds, most_bytes, UnlessReadFault, UnlessWriteFault};
+ghost use Rattle.run_app.specs.Outcome.{HasBegun, RunEnds, most_bytes};
 ghost use Rattle.run_app.specs.Parts.{FinishStatus, Stands};
 ghost use Rattle.rule_machine.specs.Promises.{AllTransactionsEnd, ClaimsAreBracketed, ShortfallsAreBounded};
 ghost use Rattle.law_soundness.specs.Going.{RunsGoSoundly};
@@ -89,16 +89,13 @@ fn end<K: Sink, D: Keeper>(
         progress.old.number s (last_line progress.old.line.items)
         (K.written sink.old) (K.written sink.new) result }
     ensures begun { HasBegun result }
-    ensures clean { result ≡ Status.Done → K.clean sink.new ≡ true }
-    ensures read { result ≡ Status.ReadFault → ⊥ }
-    ensures later { K.faults sink.old ≤ K.faults sink.new }
-    ensures cause { result ≡ Status.WriteFault → Rose (K.faults sink.old) (K.faults sink.new) }
-    ensures quiet { UnlessWriteFault result (K.faults sink.new ≡ K.faults sink.old) }
-    ensures keeps { IsLater (D.is_honest keeper.old) (D.is_honest keeper.new)
+    ensures read { is_read_fault result ≡ false }
+    ensures sink_later { K.faults sink.old ≤ K.faults sink.new }
+    ensures writes { Moved (is_write_fault result) (K.faults sink.old) (K.faults sink.new)
+        × (result ≡ Status.Done → K.clean sink.new ≡ true) }
+    ensures keeper_later { IsLater (D.is_honest keeper.old) (D.is_honest keeper.new)
         (D.faults keeper.old) (D.faults keeper.new) }
-    ensures keep_cause { result ≡ Status.KeepFault
-        → Rose (D.faults keeper.old) (D.faults keeper.new) }
-    ensures keep_quiet { UnlessKeepFault result (D.faults keeper.new ≡ D.faults keeper.old) }
+    ensures keeps { Moved (is_keep_fault result) (D.faults keeper.old) (D.faults keeper.new) }
 {
     match finish(
         form,
@@ -136,18 +133,12 @@ fn take_all<S: Source, K: Sink, D: Keeper>(
         (LeftIn b (D.rows keeper.new) (D.is_honest keeper.new) (D.may_leave keeper.new))
         (S.left source.old) (S.left source.new) (K.written sink.old) (K.written sink.new) result }
     ensures begun { HasBegun result }
-    ensures clean { result ≡ Status.Done → K.clean sink.new ≡ true }
-    ensures read_cause { result ≡ Status.ReadFault
-        → Rose (S.faults source.old) (S.faults source.new) }
-    ensures write_cause { result ≡ Status.WriteFault
-        → Rose (K.faults sink.old) (K.faults sink.new) }
-    ensures read_quiet { UnlessReadFault result (S.faults source.new ≡ S.faults source.old) }
-    ensures write_quiet { UnlessWriteFault result (K.faults sink.new ≡ K.faults sink.old) }
-    ensures keeps { IsLater (D.is_honest keeper.old) (D.is_honest keeper.new)
+    ensures reads { Moved (is_read_fault result) (S.faults source.old) (S.faults source.new) }
+    ensures writes { Moved (is_write_fault result) (K.faults sink.old) (K.faults sink.new)
+        × (result ≡ Status.Done → K.clean sink.new ≡ true) }
+    ensures later { IsLater (D.is_honest keeper.old) (D.is_honest keeper.new)
         (D.faults keeper.old) (D.faults keeper.new) }
-    ensures keep_cause { result ≡ Status.KeepFault
-        → Rose (D.faults keeper.old) (D.faults keeper.new) }
-    ensures keep_quiet { UnlessKeepFault result (D.faults keeper.new ≡ D.faults keeper.old) }
+    ensures keeps { Moved (is_keep_fault result) (D.faults keeper.old) (D.faults keeper.new) }
 {
     let mut piece = [0u8; PIECE];
     let mut taken = 0u64;
@@ -193,18 +184,12 @@ pub(crate) fn drive<S: Source, K: Sink, D: Keeper>(
         (LeftIn b (D.rows keeper.new) (D.is_honest keeper.new) (D.may_leave keeper.new))
         (S.left source.old) (S.left source.new) (K.written sink.old) (K.written sink.new) result }
     ensures begun { HasBegun result }
-    ensures clean { result ≡ Status.Done → K.clean sink.new ≡ true }
-    ensures read_cause { result ≡ Status.ReadFault
-        → Rose (S.faults source.old) (S.faults source.new) }
-    ensures write_cause { result ≡ Status.WriteFault
-        → Rose (K.faults sink.old) (K.faults sink.new) }
-    ensures read_quiet { UnlessReadFault result (S.faults source.new ≡ S.faults source.old) }
-    ensures write_quiet { UnlessWriteFault result (K.faults sink.new ≡ K.faults sink.old) }
-    ensures keeps { IsLater (D.is_honest keeper.old) (D.is_honest keeper.new)
+    ensures reads { Moved (is_read_fault result) (S.faults source.old) (S.faults source.new) }
+    ensures writes { Moved (is_write_fault result) (K.faults sink.old) (K.faults sink.new)
+        × (result ≡ Status.Done → K.clean sink.new ≡ true) }
+    ensures later { IsLater (D.is_honest keeper.old) (D.is_honest keeper.new)
         (D.faults keeper.old) (D.faults keeper.new) }
-    ensures keep_cause { result ≡ Status.KeepFault
-        → Rose (D.faults keeper.old) (D.faults keeper.new) }
-    ensures keep_quiet { UnlessKeepFault result (D.faults keeper.new ≡ D.faults keeper.old) }
+    ensures keeps { Moved (is_keep_fault result) (D.faults keeper.old) (D.faults keeper.new) }
 {
     let mut progress = Progress {
         number: 1,
@@ -240,17 +225,11 @@ fn replay<S: Source, K: Sink, D: Keeper>(
     ensures busy { result ≡ Status.Usage → ⊥ }
     // A keeper that keeps nothing is never refused.
     ensures unkept { D.keeps keeper.old ≡ false → result ≡ Status.WrongStore false → ⊥ }
-    ensures clean { result ≡ Status.Done → K.clean sink.new ≡ true }
-    ensures read_cause { result ≡ Status.ReadFault
-        → Rose (S.faults source.old) (S.faults source.new) }
-    ensures write_cause { result ≡ Status.WriteFault
-        → Rose (K.faults sink.old) (K.faults sink.new) }
-    ensures read_quiet { UnlessReadFault result (S.faults source.new ≡ S.faults source.old) }
-    ensures write_quiet { UnlessWriteFault result (K.faults sink.new ≡ K.faults sink.old) }
+    ensures reads { Moved (is_read_fault result) (S.faults source.old) (S.faults source.new) }
+    ensures writes { Moved (is_write_fault result) (K.faults sink.old) (K.faults sink.new)
+        × (result ≡ Status.Done → K.clean sink.new ≡ true) }
+    ensures keeps { Moved (is_keep_fault result) (D.faults keeper.old) (D.faults keeper.new) }
     ensures honest { D.is_honest keeper.new → D.is_honest keeper.old }
-    ensures keep_cause { result ≡ Status.KeepFault
-        → Rose (D.faults keeper.old) (D.faults keeper.new) }
-    ensures keep_quiet { UnlessKeepFault result (D.faults keeper.new ≡ D.faults keeper.old) }
 {
     match has_rows(keeper) {
         Ok(false) => drive(form, alloc, source, sink, keeper, None),
@@ -276,17 +255,11 @@ pub(crate) fn carry_out<S: Source, K: Sink, D: Keeper>(
     ensures busy { result ≡ Status.Usage → ⊥ }
     ensures unkept { D.keeps keeper.old ≡ false → ModeUnkept mode (S.left source.old)
         (S.left source.new) (K.written sink.old) (K.written sink.new) result }
-    ensures clean { result ≡ Status.Done → K.clean sink.new ≡ true }
-    ensures read_cause { result ≡ Status.ReadFault
-        → Rose (S.faults source.old) (S.faults source.new) }
-    ensures write_cause { result ≡ Status.WriteFault
-        → Rose (K.faults sink.old) (K.faults sink.new) }
-    ensures read_quiet { UnlessReadFault result (S.faults source.new ≡ S.faults source.old) }
-    ensures write_quiet { UnlessWriteFault result (K.faults sink.new ≡ K.faults sink.old) }
+    ensures reads { Moved (is_read_fault result) (S.faults source.old) (S.faults source.new) }
+    ensures writes { Moved (is_write_fault result) (K.faults sink.old) (K.faults sink.new)
+        × (result ≡ Status.Done → K.clean sink.new ≡ true) }
+    ensures keeps { Moved (is_keep_fault result) (D.faults keeper.old) (D.faults keeper.new) }
     ensures honest { D.is_honest keeper.new → D.is_honest keeper.old }
-    ensures keep_cause { result ≡ Status.KeepFault
-        → Rose (D.faults keeper.old) (D.faults keeper.new) }
-    ensures keep_quiet { UnlessKeepFault result (D.faults keeper.new ≡ D.faults keeper.old) }
 {
     match mode {
         Mode::Replay => replay(form, alloc, source, sink, keeper),

@@ -1,7 +1,6 @@
 //! The command `tally`: the ballots of an input are counted by the stake of the chain that a keeper has.
 
 ghost use Rattle.std.specs.Prelude.{◌≡◌, IfOk, IfErr, true, false};
-ghost use Rattle.base_io.specs.Outside.{Rose};
 ghost use Rattle.base_roles.specs.Entries.{at};
 ghost use Rattle.base_types.specs.Orders.{addr_cmp};
 ghost use Rattle.chain_modules.specs.Kept.{StandsFor};
@@ -9,8 +8,7 @@ ghost use Rattle.line_ballots.specs.Ballots.{text_of_tally};
 ghost use Rattle.mod_tally.specs.Tally.{tally_of};
 ghost use Rattle.rule_modules.specs.Chain.{State};
 ghost use Rattle.rule_modules.specs.Sound.{IsSound};
-ghost use Rattle.run_app.specs.Kept.{UnlessKeepFault};
-ghost use Rattle.run_app.specs.Outcome.{UnlessReadFault, UnlessWriteFault};
+ghost use Rattle.run_app.specs.Counts.{Moved, is_keep_fault, is_read_fault, is_write_fault};
 ghost use Rattle.run_app.specs.Tallies.{Counts, TallyEnds};
 ghost use Rattle.run_app.specs.Unkept.{FindsNoRows};
 ghost use Rattle.run_app.specs.Writes.{Writes};
@@ -63,12 +61,10 @@ fn write_tally<K: Sink>(alloc: Global, sink: &mut K, chain: &Chain, ballots: &Ba
         → Writes (text_of_tally (tally_of p.mine.staked (at addr_cmp ballots.now)))
         (K.written sink.old) (K.written sink.new) result }
     ensures busy { result ≡ Status.Usage → ⊥ }
-    ensures read { result ≡ Status.ReadFault → ⊥ }
-    ensures keep { result ≡ Status.KeepFault → ⊥ }
-    ensures clean { result ≡ Status.Done → K.clean sink.new ≡ true }
-    ensures write_cause { result ≡ Status.WriteFault
-        → Rose (K.faults sink.old) (K.faults sink.new) }
-    ensures write_quiet { UnlessWriteFault result (K.faults sink.new ≡ K.faults sink.old) }
+    ensures read { is_read_fault result ≡ false }
+    ensures keep { is_keep_fault result ≡ false }
+    ensures writes { Moved (is_write_fault result) (K.faults sink.old) (K.faults sink.new)
+        × (result ≡ Status.Done → K.clean sink.new ≡ true) }
 {
     match tally_text(alloc, chain, ballots) {
         Ok(text) => status_of_sink(write_text(sink, &text)),
@@ -90,14 +86,10 @@ fn count_ballots<S: Source, K: Sink>(
         → Counts form p.mine.staked (S.left source.old) (S.left source.new)
         (K.written sink.old) (K.written sink.new) result }
     ensures busy { result ≡ Status.Usage → ⊥ }
-    ensures keep { result ≡ Status.KeepFault → ⊥ }
-    ensures clean { result ≡ Status.Done → K.clean sink.new ≡ true }
-    ensures read_cause { result ≡ Status.ReadFault
-        → Rose (S.faults source.old) (S.faults source.new) }
-    ensures write_cause { result ≡ Status.WriteFault
-        → Rose (K.faults sink.old) (K.faults sink.new) }
-    ensures read_quiet { UnlessReadFault result (S.faults source.new ≡ S.faults source.old) }
-    ensures write_quiet { UnlessWriteFault result (K.faults sink.new ≡ K.faults sink.old) }
+    ensures reads { Moved (is_read_fault result) (S.faults source.old) (S.faults source.new) }
+    ensures writes { Moved (is_write_fault result) (K.faults sink.old) (K.faults sink.new)
+        × (result ≡ Status.Done → K.clean sink.new ≡ true) }
+    ensures keep { is_keep_fault result ≡ false }
 {
     let mut balloting = Balloting {
         number: 1,
@@ -126,17 +118,11 @@ pub(crate) fn tally<S: Source, K: Sink, D: Keeper>(
     ensures unkept { D.keeps keeper.old ≡ false → FindsNoRows (S.left source.old)
         (S.left source.new) (K.written sink.old) (K.written sink.new) result }
     ensures busy { result ≡ Status.Usage → ⊥ }
-    ensures clean { result ≡ Status.Done → K.clean sink.new ≡ true }
-    ensures read_cause { result ≡ Status.ReadFault
-        → Rose (S.faults source.old) (S.faults source.new) }
-    ensures write_cause { result ≡ Status.WriteFault
-        → Rose (K.faults sink.old) (K.faults sink.new) }
-    ensures read_quiet { UnlessReadFault result (S.faults source.new ≡ S.faults source.old) }
-    ensures write_quiet { UnlessWriteFault result (K.faults sink.new ≡ K.faults sink.old) }
+    ensures reads { Moved (is_read_fault result) (S.faults source.old) (S.faults source.new) }
+    ensures writes { Moved (is_write_fault result) (K.faults sink.old) (K.faults sink.new)
+        × (result ≡ Status.Done → K.clean sink.new ≡ true) }
+    ensures keeps { Moved (is_keep_fault result) (D.faults keeper.old) (D.faults keeper.new) }
     ensures honest { D.is_honest keeper.new → D.is_honest keeper.old }
-    ensures keep_cause { result ≡ Status.KeepFault
-        → Rose (D.faults keeper.old) (D.faults keeper.new) }
-    ensures keep_quiet { UnlessKeepFault result (D.faults keeper.new ≡ D.faults keeper.old) }
 {
     match restore(alloc, keeper) {
         Ok(chain) => count_ballots(form, alloc, source, sink, &chain),

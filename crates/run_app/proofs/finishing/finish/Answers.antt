@@ -1,7 +1,7 @@
-use Rattle.std.proofs.Common.{◌≡◌, ◌<◌, length, rules}
+use Rattle.std.proofs.Common.{◌≡◌, ◌<◌, length, refl, rules}
 use Rattle.std.proofs.lemmas.Result.{on_ok_weaker}
-use Rattle.run_app.proofs.KeepLemmas.{later_still, left_of}
-use Rattle.run_app.proofs.PartLemmas.{cause_of_line, cause_of_report, last_stops, line_done, line_report_all, none_done, none_report_all, rose_since}
+use Rattle.run_app.proofs.{KeepLemmas.{later_still, left_of}, CountLemmas.{part_keeps, part_writes, report_keeps}}
+use Rattle.run_app.proofs.PartLemmas.{last_stops, line_done, line_report_all, none_done, none_report_all}
 use Rattle.run_app.proofs.finishing.finish.Goals as goal
 
 pub returns-then-is_empty-clause-done : goal.returns-then-is_empty-clause-done
@@ -33,22 +33,26 @@ returns-clause-stops g c =
     let t = c.in_default.ensures.took b s k in
     line_report_all c.args.form _ c.report-2.result _ s t.0 _ _ _ _ some t.1 (left_of b _ _ _ _ t.0 t.2) c.report-2.ensures.no_line (c.report-2.ensures.stops t.0 t.2.stands)
 
+pub returns-then-is_empty-clause-keeper_later : goal.returns-then-is_empty-clause-keeper_later
+returns-then-is_empty-clause-keeper_later g c = later_still _ _
+
+pub returns-in-Err-clause-keeper_later : goal.returns-in-Err-clause-keeper_later
+returns-in-Err-clause-keeper_later g c = c.take_line.ensures.keeps
+
+pub returns-clause-keeper_later : goal.returns-clause-keeper_later
+returns-clause-keeper_later g c = c.take_line.ensures.keeps
+
+pub returns-in-Err-clause-writes : goal.returns-in-Err-clause-writes
+returns-in-Err-clause-writes g c = (part_writes c.in-Err.stop _ _ c.in-Err.ensures.cause c.in-Err.ensures.quiet, tt)
+
+pub returns-clause-writes : goal.returns-clause-writes
+returns-clause-writes g c = rw (← c.in_default.ensures.quiet) c.report-2.ensures.writes
+
 pub returns-then-is_empty-clause-keeps : goal.returns-then-is_empty-clause-keeps
-returns-then-is_empty-clause-keeps g c = later_still _ _
+returns-then-is_empty-clause-keeps g c = report_keeps c.report.result _ _ c.report.ensures.no_line refl
 
 pub returns-in-Err-clause-keeps : goal.returns-in-Err-clause-keeps
-returns-in-Err-clause-keeps g c = c.take_line.ensures.keeps
+returns-in-Err-clause-keeps g c = part_keeps c.in-Err.stop _ _ c.in-Err.ensures.keep_cause c.in-Err.ensures.keep_quiet
 
 pub returns-clause-keeps : goal.returns-clause-keeps
-returns-clause-keeps g c = c.take_line.ensures.keeps
-
-pub returns-then-is_empty-clause-cause : goal.returns-then-is_empty-clause-cause
-returns-then-is_empty-clause-cause g c = cause_of_report c.report.result _ c.report.ensures.no_line c.report.ensures.report_cause c.report.ensures.flush_cause
-
-pub returns-in-Err-clause-cause : goal.returns-in-Err-clause-cause
-returns-in-Err-clause-cause g c = cause_of_line c.in-Err.stop _ c.in-Err.ensures.cause
-
-pub returns-clause-cause : goal.returns-clause-cause
-returns-clause-cause g c =
-    cause_of_report c.report-2.result _ c.report-2.ensures.no_line (λ e. rose_since _ _ _ c.in_default.ensures.quiet (c.report-2.ensures.report_cause e))
-    (λ e. rose_since _ _ _ c.in_default.ensures.quiet (c.report-2.ensures.flush_cause e))
+returns-clause-keeps g c = report_keeps c.report-2.result _ _ c.report-2.ensures.no_line c.in_default.ensures.keep_quiet

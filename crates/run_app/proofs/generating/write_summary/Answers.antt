@@ -1,6 +1,6 @@
 use Rattle.std.proofs.Common.{◌≡◌, ◌∙◌, ap, sym, subst}
 use Rattle.run_app.specs.{Machine.not_applied, Modes.Tries, Ending.status_of}
-use Rattle.run_app.proofs.ModeLemmas.{busy_so, cause_so, clean_so, keep_so, no_block, quiet_so, read_so, stopped_so, told_otherwise, tried, tried_at_block, tried_without_memory, written_so}
+use Rattle.run_app.proofs.ModeLemmas.{busy_so, keep_so, no_block, read_so, stopped_so, told_otherwise, tried, tried_at_block, tried_without_memory, writes_so, written_so}
 use Rattle.run_app.proofs.generating.write_summary.Goals as goal
 
 pub returns-in-Ok-clause-ends : goal.returns-in-Ok-clause-ends
@@ -20,14 +20,8 @@ returns-in-Ok-clause-read g c = rw c.status_of_sink.ensures (read_so c.write_tex
 pub returns-in-Ok-clause-keep : goal.returns-in-Ok-clause-keep
 returns-in-Ok-clause-keep g c = rw c.status_of_sink.ensures (keep_so c.write_text.result)
 
-pub returns-in-Ok-clause-clean : goal.returns-in-Ok-clause-clean
-returns-in-Ok-clause-clean g c = rw c.status_of_sink.ensures (clean_so c.write_text.result _ c.write_text.ensures.clean)
-
-pub returns-in-Ok-clause-write_cause : goal.returns-in-Ok-clause-write_cause
-returns-in-Ok-clause-write_cause g c = rw c.status_of_sink.ensures (cause_so c.write_text.result _ c.write_text.ensures.cause)
-
-pub returns-in-Ok-clause-write_quiet : goal.returns-in-Ok-clause-write_quiet
-returns-in-Ok-clause-write_quiet g c = rw c.status_of_sink.ensures (quiet_so c.write_text.result _ c.write_text.ensures.quiet)
+pub returns-in-Ok-clause-writes : goal.returns-in-Ok-clause-writes
+returns-in-Ok-clause-writes g c = rw c.status_of_sink.ensures (writes_so c.write_text.result _ _ _ c.write_text.ensures.clean c.write_text.ensures.cause c.write_text.ensures.quiet)
 
 pub returns-in-Err-Block-clause-ends : goal.returns-in-Err-Block-clause-ends
 returns-in-Err-Block-clause-ends g c = λ due made failed.

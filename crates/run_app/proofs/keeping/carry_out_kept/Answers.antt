@@ -9,3 +9,6 @@ returns-clause-ends g c = rw (← c.over-over.ensures.same, c.into_inner.ensures
 
 pub returns-clause-became : goal.returns-clause-became
 returns-clause-became g c = rw c.requires.rows c.into_inner.ensures.became
+
+pub returns-clause-keeps : goal.returns-clause-keeps
+returns-clause-keeps g c = rw (← c.over-over.ensures.same, c.into_inner.ensures.same) c.carry_out-status.ensures.keeps

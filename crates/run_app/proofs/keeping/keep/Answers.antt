@@ -1,7 +1,7 @@
 use Rattle.std.proofs.Common.{◌≡◌, ◌∙◌, inl, inr, refl, rules}
 use Rattle.store_history.proofs.KeepingLemmas.{become_before}
-use Rattle.run_app.proofs.ModeLemmas.{nothing_done, quiet_at, quiet_read, rows_left}
-use Rattle.run_app.proofs.OpenLemmas.{is_unopened, mode_unopened, never_bad_store, opened_cause, opened_quiet, unopened_busy, unopened_undone, unopened_unread, unopened_unwritten}
+use Rattle.run_app.proofs.ModeLemmas.{nothing_done, rows_left}
+use Rattle.run_app.proofs.OpenLemmas.{is_unopened, mode_unopened, never_bad_store, unopened_busy, unopened_keeps, unopened_unread, unopened_writes}
 use Rattle.run_app.proofs.WayLemmas.{committing_few, kept_before}
 use Rattle.run_app.proofs.keeping.keep.Goals as goal
 
@@ -37,33 +37,16 @@ returns-in-Err-clause-busy g c = rw c.status_of_open.ensures (unopened_busy c.in
 pub returns-in-Err-clause-unkept : goal.returns-in-Err-clause-unkept
 returns-in-Err-clause-unkept g c = rw c.status_of_open.ensures (λ off. mode_unopened c.in-Err.fault c.args.mode _ _ c.requires.commits (c.in-Err.ensures.unkept off))
 
-pub returns-in-Err-clause-clean : goal.returns-in-Err-clause-clean
-returns-in-Err-clause-clean g c = rw c.status_of_open.ensures (λ e. absurd (unopened_undone c.in-Err.fault e))
+pub returns-in-Err-clause-reads : goal.returns-in-Err-clause-reads
+returns-in-Err-clause-reads g c = rw (c.status_of_open.ensures, unopened_unread c.in-Err.fault) refl
 
-pub returns-in-Err-clause-read_cause : goal.returns-in-Err-clause-read_cause
-returns-in-Err-clause-read_cause g c = rw c.status_of_open.ensures (λ e. absurd (unopened_unread c.in-Err.fault e))
+pub returns-in-Err-clause-writes : goal.returns-in-Err-clause-writes
+returns-in-Err-clause-writes g c = rw c.status_of_open.ensures (unopened_writes c.in-Err.fault _ _)
 
-pub returns-in-Err-clause-write_cause : goal.returns-in-Err-clause-write_cause
-returns-in-Err-clause-write_cause g c = rw c.status_of_open.ensures (λ e. absurd (unopened_unwritten c.in-Err.fault e))
+pub returns-in-Err-clause-keeps : goal.returns-in-Err-clause-keeps
+returns-in-Err-clause-keeps g c = rw c.status_of_open.ensures (unopened_keeps c.in-Err.fault _ _ c.in-Err.ensures.cause c.in-Err.ensures.quiet)
 
-pub returns-in-Err-clause-read_quiet : goal.returns-in-Err-clause-read_quiet
-returns-in-Err-clause-read_quiet g c = quiet_read _ _ refl
-
-pub returns-in-Err-clause-write_quiet : goal.returns-in-Err-clause-write_quiet
-returns-in-Err-clause-write_quiet g c = quiet_at _ _ refl
-
-pub returns-in-Err-clause-keep_cause : goal.returns-in-Err-clause-keep_cause
-returns-in-Err-clause-keep_cause g c = rw c.status_of_open.ensures (opened_cause c.in-Err.fault _ c.in-Err.ensures.cause)
-
-pub returns-in-Err-clause-keep_quiet : goal.returns-in-Err-clause-keep_quiet
-returns-in-Err-clause-keep_quiet g c = rw c.status_of_open.ensures (opened_quiet c.in-Err.fault _ c.in-Err.ensures.quiet)
-
-pub returns-in-Ok-clause-keep_cause : goal.returns-in-Ok-clause-keep_cause
-returns-in-Ok-clause-keep_cause g c =
+pub returns-in-Ok-clause-keeps : goal.returns-in-Ok-clause-keeps
+returns-in-Ok-clause-keeps g c =
     let back : c.keeper-1.given.0 ≡ c.carry_out_kept-status.result.1.now = search rules in
-    rw (back, ← c.in-Ok.ensures.quiet) c.carry_out_kept-status.ensures.keep_cause
-
-pub returns-in-Ok-clause-keep_quiet : goal.returns-in-Ok-clause-keep_quiet
-returns-in-Ok-clause-keep_quiet g c =
-    let back : c.keeper-1.given.0 ≡ c.carry_out_kept-status.result.1.now = search rules in
-    rw (back, ← c.in-Ok.ensures.quiet) c.carry_out_kept-status.ensures.keep_quiet
+    rw (back, ← c.in-Ok.ensures.quiet) c.carry_out_kept-status.ensures.keeps

@@ -25,3 +25,6 @@ returns-in-Past-clause-ends g c = rw (← c.way_of.ensures, c.in-Past.is) (refl,
 
 pub returns-in-Past-clause-unkept : goal.returns-in-Past-clause-unkept
 returns-in-Past-clause-unkept g c = rw (← c.way_of.ensures, c.in-Past.is) (λ off. let u = c.answer_past.ensures.unkept off in (u.0, (refl, u.1)))
+
+pub returns-in-Past-clause-reads : goal.returns-in-Past-clause-reads
+returns-in-Past-clause-reads g c = rw c.answer_past.ensures.read refl

@@ -1,7 +1,7 @@
 use Rattle.std.proofs.Common.{inl, inr, refl}
-use Rattle.run_app.proofs.ModeLemmas.{nothing, quiet_at}
-use Rattle.run_app.proofs.PastLemmas.{asked_at, chain_unkept, past_busy, past_undone, past_unkept, past_unread, past_unwritten, refused_chain, refused_past}
-use Rattle.run_app.proofs.ResumeLemmas.{unresumed_busy, unresumed_undone, unresumed_unread, unresumed_unwritten}
+use Rattle.run_app.proofs.ModeLemmas.{nothing}
+use Rattle.run_app.proofs.PastLemmas.{asked_at, chain_unkept, past_busy, past_unkept, past_unread, past_writes, refused_chain, refused_past}
+use Rattle.run_app.proofs.ResumeLemmas.{unresumed_busy, unresumed_unread, unresumed_writes}
 use Rattle.run_app.proofs.recalling.answer_at.Goals as goal
 
 -- ---- rows that tell nothing of the height
@@ -18,14 +18,8 @@ returns-in-Err-clause-read g c = rw c.status_of_past.ensures (past_unread c.in-E
 pub returns-in-Err-clause-keep : goal.returns-in-Err-clause-keep
 returns-in-Err-clause-keep g c = rw c.status_of_past.ensures (past_unkept c.in-Err.fault)
 
-pub returns-in-Err-clause-clean : goal.returns-in-Err-clause-clean
-returns-in-Err-clause-clean g c = rw c.status_of_past.ensures (λ e. absurd (past_undone c.in-Err.fault e))
-
-pub returns-in-Err-clause-write_cause : goal.returns-in-Err-clause-write_cause
-returns-in-Err-clause-write_cause g c = rw c.status_of_past.ensures (λ e. absurd (past_unwritten c.in-Err.fault e))
-
-pub returns-in-Err-clause-write_quiet : goal.returns-in-Err-clause-write_quiet
-returns-in-Err-clause-write_quiet g c = quiet_at _ _ refl
+pub returns-in-Err-clause-writes : goal.returns-in-Err-clause-writes
+returns-in-Err-clause-writes g c = rw c.status_of_past.ensures (past_writes c.in-Err.fault _ _)
 
 -- ---- past rows
 
@@ -48,11 +42,5 @@ returns-clause-read g c = rw c.status_of_restore.ensures (unresumed_unread c.in-
 pub returns-clause-keep : goal.returns-clause-keep
 returns-clause-keep g c = rw c.status_of_restore.ensures (chain_unkept _ c.in-Err-chain_of_rows.fault c.in-Err-chain_of_rows.ensures.fault)
 
-pub returns-clause-clean : goal.returns-clause-clean
-returns-clause-clean g c = rw c.status_of_restore.ensures (λ e. absurd (unresumed_undone c.in-Err-chain_of_rows.fault e))
-
-pub returns-clause-write_cause : goal.returns-clause-write_cause
-returns-clause-write_cause g c = rw c.status_of_restore.ensures (λ e. absurd (unresumed_unwritten c.in-Err-chain_of_rows.fault e))
-
-pub returns-clause-write_quiet : goal.returns-clause-write_quiet
-returns-clause-write_quiet g c = quiet_at _ _ refl
+pub returns-clause-writes : goal.returns-clause-writes
+returns-clause-writes g c = rw c.status_of_restore.ensures (unresumed_writes c.in-Err-chain_of_rows.fault _ _)

@@ -1,7 +1,7 @@
 use Rattle.std.proofs.Common.{inr, map, refl}
 use Rattle.base_io.specs.Changes.{pair_of}
-use Rattle.run_app.proofs.{ModeLemmas.{nothing, quiet_at, quiet_keep, rows_left}, PastLemmas.{not_loaded, past_loaded}}
-use Rattle.run_app.proofs.ResumeLemmas.{no_rows_found, unresumed_busy, unresumed_cause, unresumed_quiet, unresumed_undone, unresumed_unread, unresumed_unwritten}
+use Rattle.run_app.proofs.{ModeLemmas.{nothing, rows_left}, PastLemmas.{not_loaded, past_loaded}}
+use Rattle.run_app.proofs.ResumeLemmas.{no_rows_found, unresumed_busy, unresumed_keeps, unresumed_unread, unresumed_writes}
 use Rattle.run_app.proofs.recalling.answer_past.Goals as goal
 
 -- ---- rows that were not loaded, or are none
@@ -21,20 +21,11 @@ returns-in-Err-clause-read g c = rw c.status_of_restore.ensures (unresumed_unrea
 pub returns-in-Err-clause-unkept : goal.returns-in-Err-clause-unkept
 returns-in-Err-clause-unkept g c = rw c.status_of_restore.ensures (λ off. (no_rows_found c.in-Err.fault (c.in-Err.ensures.unkept off), nothing _ _ refl))
 
-pub returns-in-Err-clause-clean : goal.returns-in-Err-clause-clean
-returns-in-Err-clause-clean g c = rw c.status_of_restore.ensures (λ e. absurd (unresumed_undone c.in-Err.fault e))
+pub returns-in-Err-clause-writes : goal.returns-in-Err-clause-writes
+returns-in-Err-clause-writes g c = rw c.status_of_restore.ensures (unresumed_writes c.in-Err.fault _ _)
 
-pub returns-in-Err-clause-write_cause : goal.returns-in-Err-clause-write_cause
-returns-in-Err-clause-write_cause g c = rw c.status_of_restore.ensures (λ e. absurd (unresumed_unwritten c.in-Err.fault e))
-
-pub returns-in-Err-clause-write_quiet : goal.returns-in-Err-clause-write_quiet
-returns-in-Err-clause-write_quiet g c = quiet_at _ _ refl
-
-pub returns-in-Err-clause-keep_cause : goal.returns-in-Err-clause-keep_cause
-returns-in-Err-clause-keep_cause g c = rw c.status_of_restore.ensures (unresumed_cause c.in-Err.fault _ c.in-Err.ensures.cause)
-
-pub returns-in-Err-clause-keep_quiet : goal.returns-in-Err-clause-keep_quiet
-returns-in-Err-clause-keep_quiet g c = rw c.status_of_restore.ensures (unresumed_quiet c.in-Err.fault _ c.in-Err.ensures.quiet)
+pub returns-in-Err-clause-keeps : goal.returns-in-Err-clause-keeps
+returns-in-Err-clause-keeps g c = rw c.status_of_restore.ensures (unresumed_keeps c.in-Err.fault _ _ c.in-Err.ensures.cause c.in-Err.ensures.quiet)
 
 -- ---- rows that are asked
 
@@ -49,8 +40,5 @@ returns-clause-ends g c =
 pub returns-clause-unkept : goal.returns-clause-unkept
 returns-clause-unkept g c = λ off. absurd (c.in-Ok.ensures.unkept off)
 
-pub returns-clause-keep_cause : goal.returns-clause-keep_cause
-returns-clause-keep_cause g c = λ e. absurd (c.answer_at.ensures.keep e)
-
-pub returns-clause-keep_quiet : goal.returns-clause-keep_quiet
-returns-clause-keep_quiet g c = quiet_keep _ _ c.in-Ok.ensures.quiet
+pub returns-clause-keeps : goal.returns-clause-keeps
+returns-clause-keeps g c = rw c.answer_at.ensures.keep c.in-Ok.ensures.quiet

@@ -1,6 +1,6 @@
 use Rattle.std.proofs.Common.{refl}
-use Rattle.run_app.proofs.ModeLemmas.{nothing, quiet_at, quiet_keep}
-use Rattle.run_app.proofs.ResumeLemmas.{asked, no_rows_found, not_asked, unresumed_busy, unresumed_cause, unresumed_quiet, unresumed_undone, unresumed_unread, unresumed_unwritten}
+use Rattle.run_app.proofs.ModeLemmas.{nothing}
+use Rattle.run_app.proofs.ResumeLemmas.{asked, no_rows_found, not_asked, unresumed_busy, unresumed_keeps, unresumed_unread, unresumed_writes}
 use Rattle.run_app.proofs.resuming.answer.Goals as goal
 
 pub returns-in-Ok-clause-ends : goal.returns-in-Ok-clause-ends
@@ -8,11 +8,8 @@ returns-in-Ok-clause-ends g c =
     let e = c.restore.ensures in
     asked c.args.form _ _ _ _ _ _ _ _ _ _ c.in-Ok.ensures.chain e.same e.stop c.write_answer.ensures.ends
 
-pub returns-in-Ok-clause-keep_cause : goal.returns-in-Ok-clause-keep_cause
-returns-in-Ok-clause-keep_cause g c = λ e. absurd (c.write_answer.ensures.keep e)
-
-pub returns-in-Ok-clause-keep_quiet : goal.returns-in-Ok-clause-keep_quiet
-returns-in-Ok-clause-keep_quiet g c = quiet_keep _ _ c.in-Ok.ensures.quiet
+pub returns-in-Ok-clause-keeps : goal.returns-in-Ok-clause-keeps
+returns-in-Ok-clause-keeps g c = rw c.write_answer.ensures.keep c.in-Ok.ensures.quiet
 
 pub returns-in-Err-clause-ends : goal.returns-in-Err-clause-ends
 returns-in-Err-clause-ends g c =
@@ -25,20 +22,11 @@ returns-in-Err-clause-busy g c = rw c.status_of_restore.ensures (unresumed_busy 
 pub returns-in-Err-clause-read : goal.returns-in-Err-clause-read
 returns-in-Err-clause-read g c = rw c.status_of_restore.ensures (unresumed_unread c.in-Err.fault)
 
-pub returns-in-Err-clause-clean : goal.returns-in-Err-clause-clean
-returns-in-Err-clause-clean g c = rw c.status_of_restore.ensures (λ e. absurd (unresumed_undone c.in-Err.fault e))
+pub returns-in-Err-clause-writes : goal.returns-in-Err-clause-writes
+returns-in-Err-clause-writes g c = rw c.status_of_restore.ensures (unresumed_writes c.in-Err.fault _ _)
 
-pub returns-in-Err-clause-write_cause : goal.returns-in-Err-clause-write_cause
-returns-in-Err-clause-write_cause g c = rw c.status_of_restore.ensures (λ e. absurd (unresumed_unwritten c.in-Err.fault e))
-
-pub returns-in-Err-clause-write_quiet : goal.returns-in-Err-clause-write_quiet
-returns-in-Err-clause-write_quiet g c = quiet_at _ _ refl
-
-pub returns-in-Err-clause-keep_cause : goal.returns-in-Err-clause-keep_cause
-returns-in-Err-clause-keep_cause g c = rw c.status_of_restore.ensures (unresumed_cause c.in-Err.fault _ c.in-Err.ensures.cause)
-
-pub returns-in-Err-clause-keep_quiet : goal.returns-in-Err-clause-keep_quiet
-returns-in-Err-clause-keep_quiet g c = rw c.status_of_restore.ensures (unresumed_quiet c.in-Err.fault _ c.in-Err.ensures.quiet)
+pub returns-in-Err-clause-keeps : goal.returns-in-Err-clause-keeps
+returns-in-Err-clause-keeps g c = rw c.status_of_restore.ensures (unresumed_keeps c.in-Err.fault _ _ c.in-Err.ensures.cause c.in-Err.ensures.quiet)
 
 pub returns-in-Ok-clause-unkept : goal.returns-in-Ok-clause-unkept
 returns-in-Ok-clause-unkept g c = λ off. absurd (c.in-Ok.ensures.unkept off)

@@ -1,7 +1,6 @@
 use Rattle.std.proofs.Common.{inl, inr, refl, ap, Err}
-use Rattle.run_app.proofs.{DriveLemmas.begun_busy, PartLemmas.rose_later}
-use Rattle.run_app.proofs.ModeLemmas.{nothing_done, quiet_at, quiet_read}
-use Rattle.run_app.proofs.ResumeLemmas.{all_taken, each_changes, leads_first, never_none, no_rows_found, not_brought, not_resumed, resumed_first, unresumed_busy, unresumed_cause, unresumed_quiet, unresumed_undone, unresumed_unread, unresumed_unwritten, went_on}
+use Rattle.run_app.proofs.{DriveLemmas.begun_busy, PartLemmas.rose_later, ModeLemmas.nothing_done}
+use Rattle.run_app.proofs.ResumeLemmas.{all_taken, each_changes, leads_first, never_none, no_rows_found, not_brought, not_resumed, resumed_first, unresumed_busy, unresumed_keeps, unresumed_unread, unresumed_writes, went_on}
 use Rattle.run_app.proofs.resuming.resume.Goals as goal
 
 pub commit_migration-requires-clause-ordinary : goal.commit_migration-requires-clause-ordinary
@@ -24,7 +23,7 @@ pub returns-in-Ok-commit_migration-clause-ends : goal.returns-in-Ok-commit_migra
 returns-in-Ok-commit_migration-clause-ends g c =
     let e = c.restore_with_changes.ensures in
     let commits = rw c.deref.ensures.value at c.in-Ok-commit_migration.ensures.commits in
-    inl (went_on c.args.form _ _ _ _ _ c.in-Ok.ensures.restored e.same _ _ _ _ e.settled commits _ _ _ _ _ _ _ _ c.drive.ensures.keeps.honest c.commit_migration.ensures.honest c.drive.ensures.ends)
+    inl (went_on c.args.form _ _ _ _ _ c.in-Ok.ensures.restored e.same _ _ _ _ e.settled commits _ _ _ _ _ _ _ _ c.drive.ensures.later.honest c.commit_migration.ensures.honest c.drive.ensures.ends)
 
 pub returns-in-Err-Failed-clause-ends : goal.returns-in-Err-Failed-clause-ends
 returns-in-Err-Failed-clause-ends g c =
@@ -48,26 +47,14 @@ returns-in-Err-clause-ends g c =
 pub returns-in-Err-clause-busy : goal.returns-in-Err-clause-busy
 returns-in-Err-clause-busy g c = rw c.status_of_restore.ensures (unresumed_busy c.in-Err.fault)
 
-pub returns-in-Err-clause-clean : goal.returns-in-Err-clause-clean
-returns-in-Err-clause-clean g c = rw c.status_of_restore.ensures (λ e. absurd (unresumed_undone c.in-Err.fault e))
+pub returns-in-Err-clause-reads : goal.returns-in-Err-clause-reads
+returns-in-Err-clause-reads g c = rw (c.status_of_restore.ensures, unresumed_unread c.in-Err.fault) refl
 
-pub returns-in-Err-clause-read_cause : goal.returns-in-Err-clause-read_cause
-returns-in-Err-clause-read_cause g c = rw c.status_of_restore.ensures (λ e. absurd (unresumed_unread c.in-Err.fault e))
+pub returns-in-Err-clause-writes : goal.returns-in-Err-clause-writes
+returns-in-Err-clause-writes g c = rw c.status_of_restore.ensures (unresumed_writes c.in-Err.fault _ _)
 
-pub returns-in-Err-clause-write_cause : goal.returns-in-Err-clause-write_cause
-returns-in-Err-clause-write_cause g c = rw c.status_of_restore.ensures (λ e. absurd (unresumed_unwritten c.in-Err.fault e))
-
-pub returns-in-Err-clause-read_quiet : goal.returns-in-Err-clause-read_quiet
-returns-in-Err-clause-read_quiet g c = quiet_read _ _ refl
-
-pub returns-in-Err-clause-write_quiet : goal.returns-in-Err-clause-write_quiet
-returns-in-Err-clause-write_quiet g c = quiet_at _ _ refl
-
-pub returns-in-Err-clause-keep_cause : goal.returns-in-Err-clause-keep_cause
-returns-in-Err-clause-keep_cause g c = rw c.status_of_restore.ensures (unresumed_cause c.in-Err.fault _ c.in-Err.ensures.cause)
-
-pub returns-in-Err-clause-keep_quiet : goal.returns-in-Err-clause-keep_quiet
-returns-in-Err-clause-keep_quiet g c = rw c.status_of_restore.ensures (unresumed_quiet c.in-Err.fault _ c.in-Err.ensures.quiet)
+pub returns-in-Err-clause-keeps : goal.returns-in-Err-clause-keeps
+returns-in-Err-clause-keeps g c = rw c.status_of_restore.ensures (unresumed_keeps c.in-Err.fault _ _ c.in-Err.ensures.cause c.in-Err.ensures.quiet)
 
 pub returns-in-Ok-commit_migration-clause-unkept : goal.returns-in-Ok-commit_migration-clause-unkept
 returns-in-Ok-commit_migration-clause-unkept g c = λ off. absurd (c.in-Ok.ensures.unkept off)
@@ -84,12 +71,12 @@ returns-in-Err-clause-unkept g c = rw c.status_of_restore.ensures (λ off. (no_r
 pub returns-in-Ok-commit_migration-clause-busy : goal.returns-in-Ok-commit_migration-clause-busy
 returns-in-Ok-commit_migration-clause-busy g c = begun_busy c.drive.result c.drive.ensures.begun
 
-pub returns-in-Ok-commit_migration-clause-keep_cause : goal.returns-in-Ok-commit_migration-clause-keep_cause
-returns-in-Ok-commit_migration-clause-keep_cause g c = λ e. rose_later _ _ _ c.restore_with_changes.ensures.later (rose_later _ _ _ c.commit_migration.ensures.later (c.drive.ensures.keep_cause e))
+pub returns-in-Ok-commit_migration-clause-keeps : goal.returns-in-Ok-commit_migration-clause-keeps
+returns-in-Ok-commit_migration-clause-keeps g c = rw (← c.in-Ok.ensures.quiet, ← c.in-Ok-commit_migration.ensures.quiet) c.drive.ensures.keeps
 
-pub returns-in-Err-Failed-clause-keep_cause : goal.returns-in-Err-Failed-clause-keep_cause
-returns-in-Err-Failed-clause-keep_cause g c = λ e. rose_later _ _ _ c.restore_with_changes.ensures.later (c.in-Err-Failed.ensures.cause (ap Err c.in-Err-Failed.field-0-is))
+pub returns-in-Err-Failed-clause-keeps : goal.returns-in-Err-Failed-clause-keeps
+returns-in-Err-Failed-clause-keeps g c = rose_later _ _ _ c.restore_with_changes.ensures.later (c.in-Err-Failed.ensures.cause (ap Err c.in-Err-Failed.field-0-is))
 
 pub returns-in-Ok-commit_migration-clause-honest : goal.returns-in-Ok-commit_migration-clause-honest
 returns-in-Ok-commit_migration-clause-honest g c = λ h.
-    c.restore_with_changes.ensures.honest (c.commit_migration.ensures.honest (c.drive.ensures.keeps.honest h))
+    c.restore_with_changes.ensures.honest (c.commit_migration.ensures.honest (c.drive.ensures.later.honest h))

@@ -1,5 +1,5 @@
 use Rattle.std.proofs.Common.{refl}
-use Rattle.run_app.proofs.ModeLemmas.{busy_so, cause_so, clean_so, keep_so, quiet_so, read_so, some_otherwise, told_otherwise, written_so}
+use Rattle.run_app.proofs.ModeLemmas.{busy_so, keep_so, read_so, some_otherwise, told_otherwise, writes_so, written_so}
 use Rattle.run_app.proofs.ResumeLemmas.{answered_none, answered_some, answered_without_memory}
 use Rattle.run_app.proofs.resuming.write_told.Goals as goal
 
@@ -17,14 +17,8 @@ returns-in-Ok-Some-clause-read g c = rw c.status_of_sink.ensures (read_so c.writ
 pub returns-in-Ok-Some-clause-keep : goal.returns-in-Ok-Some-clause-keep
 returns-in-Ok-Some-clause-keep g c = rw c.status_of_sink.ensures (keep_so c.write_text.result)
 
-pub returns-in-Ok-Some-clause-clean : goal.returns-in-Ok-Some-clause-clean
-returns-in-Ok-Some-clause-clean g c = rw c.status_of_sink.ensures (clean_so c.write_text.result _ c.write_text.ensures.clean)
-
-pub returns-in-Ok-Some-clause-write_cause : goal.returns-in-Ok-Some-clause-write_cause
-returns-in-Ok-Some-clause-write_cause g c = rw c.status_of_sink.ensures (cause_so c.write_text.result _ c.write_text.ensures.cause)
-
-pub returns-in-Ok-Some-clause-write_quiet : goal.returns-in-Ok-Some-clause-write_quiet
-returns-in-Ok-Some-clause-write_quiet g c = rw c.status_of_sink.ensures (quiet_so c.write_text.result _ c.write_text.ensures.quiet)
+pub returns-in-Ok-Some-clause-writes : goal.returns-in-Ok-Some-clause-writes
+returns-in-Ok-Some-clause-writes g c = rw c.status_of_sink.ensures (writes_so c.write_text.result _ _ _ c.write_text.ensures.clean c.write_text.ensures.cause c.write_text.ensures.quiet)
 
 pub returns-in-Ok-None-clause-ends : goal.returns-in-Ok-None-clause-ends
 returns-in-Ok-None-clause-ends g c = λ due is. answered_none due _ (rw (c.in-Ok-None.is, c.in-Ok-None.field-0-is) at is)

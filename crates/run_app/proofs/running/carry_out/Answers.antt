@@ -1,5 +1,5 @@
 use Rattle.std.proofs.Common.{refl}
-use Rattle.run_app.proofs.ModeLemmas.{quiet_keep, untouched}
+use Rattle.run_app.proofs.ModeLemmas.{untouched}
 use Rattle.run_app.proofs.running.carry_out.Goals as goal
 
 pub returns-in-Gen-clause-ends : goal.returns-in-Gen-clause-ends
@@ -11,23 +11,14 @@ returns-in-Trial-clause-ends g c = rw c.in-Trial.is ((refl, c.write_trial.ensure
 pub returns-in-Check-clause-ends : goal.returns-in-Check-clause-ends
 returns-in-Check-clause-ends g c = rw c.in-Check.is (c.check_all.ensures.ends, untouched _ _)
 
-pub returns-in-Check-clause-keep_cause : goal.returns-in-Check-clause-keep_cause
-returns-in-Check-clause-keep_cause g c = λ e. absurd (c.check_all.ensures.keep e)
+pub returns-in-Check-clause-keeps : goal.returns-in-Check-clause-keeps
+returns-in-Check-clause-keeps g c = rw c.check_all.ensures.keep refl
 
-pub returns-in-Check-clause-keep_quiet : goal.returns-in-Check-clause-keep_quiet
-returns-in-Check-clause-keep_quiet g c = quiet_keep _ _ refl
+pub returns-in-Gen-clause-keeps : goal.returns-in-Gen-clause-keeps
+returns-in-Gen-clause-keeps g c = rw c.write_generated.ensures.keep refl
 
-pub returns-in-Gen-clause-keep_cause : goal.returns-in-Gen-clause-keep_cause
-returns-in-Gen-clause-keep_cause g c = λ e. absurd (c.write_generated.ensures.keep e)
-
-pub returns-in-Trial-clause-keep_cause : goal.returns-in-Trial-clause-keep_cause
-returns-in-Trial-clause-keep_cause g c = λ e. absurd (c.write_trial.ensures.keep e)
-
-pub returns-in-Gen-clause-keep_quiet : goal.returns-in-Gen-clause-keep_quiet
-returns-in-Gen-clause-keep_quiet g c = quiet_keep _ _ refl
-
-pub returns-in-Trial-clause-keep_quiet : goal.returns-in-Trial-clause-keep_quiet
-returns-in-Trial-clause-keep_quiet g c = quiet_keep _ _ refl
+pub returns-in-Trial-clause-keeps : goal.returns-in-Trial-clause-keeps
+returns-in-Trial-clause-keeps g c = rw c.write_trial.ensures.keep refl
 
 pub returns-in-Query-clause-ends : goal.returns-in-Query-clause-ends
 returns-in-Query-clause-ends g c = rw c.in-Query.is (refl, c.answer.ensures.ends)
@@ -52,3 +43,12 @@ returns-in-Check-clause-unkept g c = rw c.in-Check.is (λ off. tt)
 
 pub returns-in-Tally-clause-unkept : goal.returns-in-Tally-clause-unkept
 returns-in-Tally-clause-unkept g c = rw c.in-Tally.is c.tally.ensures.unkept
+
+pub returns-in-Query-clause-reads : goal.returns-in-Query-clause-reads
+returns-in-Query-clause-reads g c = rw c.answer.ensures.read refl
+
+pub returns-in-Gen-clause-reads : goal.returns-in-Gen-clause-reads
+returns-in-Gen-clause-reads g c = rw c.write_generated.ensures.read refl
+
+pub returns-in-Trial-clause-reads : goal.returns-in-Trial-clause-reads
+returns-in-Trial-clause-reads g c = rw c.write_trial.ensures.read refl

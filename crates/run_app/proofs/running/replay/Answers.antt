@@ -38,3 +38,6 @@ returns-in-Ok-true-clause-unkept g c =
 
 pub returns-in-Ok-false-clause-busy : goal.returns-in-Ok-false-clause-busy
 returns-in-Ok-false-clause-busy g c = begun_busy c.drive.result c.drive.ensures.begun
+
+pub returns-in-Ok-false-clause-keeps : goal.returns-in-Ok-false-clause-keeps
+returns-in-Ok-false-clause-keeps g c = rw (← c.in-Ok-false.ensures.quiet) c.drive.ensures.keeps

@@ -1,7 +1,7 @@
 use Rattle.std.proofs.Common.{map, string_bytes}
 use Rattle.run_app.{specs.Commands.way_of, proofs.ModeLemmas.few_blocks}
 use Rattle.run_app.proofs.CommandLemmas.{complete_unasked, ends_unasked, is_of_command, is_of_no_command, kept_unasked, read_unasked, unkept_unasked, write_unasked}
-use Rattle.run_app.proofs.{CountLemmas.{moved_keep, moved_read, moved_write}, RejoinLemmas.runs_go_on}
+use Rattle.run_app.proofs.{CountLemmas.{rose_keep, rose_read, rose_write}, RejoinLemmas.runs_go_on}
 use Rattle.run_app.proofs.{SoundLemmas.lines_replayed, StopLemmas.stops_unbegun}
 use Rattle.run_app.proofs.{WayLemmas.{untroubled_way, way_commits, way_stops}, WholeLemmas.answers_replayed}
 use Rattle.run_app.proofs.running.run.Goals as goal
@@ -23,21 +23,12 @@ returns-in-Ok-clause-stops g c = rw c.in-Ok.ensures.command (way_stops c.in-Ok.c
 pub returns-in-Ok-clause-usage : goal.returns-in-Ok-clause-usage
 returns-in-Ok-clause-usage g c = is_of_command c.perform.result _ c.in-Ok.command c.in-Ok.ensures.command c.perform.ensures.busy
 
-pub returns-in-Ok-clause-reads : goal.returns-in-Ok-clause-reads
-returns-in-Ok-clause-reads g c = moved_read c.perform.result _ _ c.perform.ensures.read_cause c.perform.ensures.read_quiet
-
-pub returns-in-Ok-clause-writes : goal.returns-in-Ok-clause-writes
-returns-in-Ok-clause-writes g c = (moved_write c.perform.result _ _ c.perform.ensures.write_cause c.perform.ensures.write_quiet, c.perform.ensures.clean)
-
-pub returns-in-Ok-clause-keeps : goal.returns-in-Ok-clause-keeps
-returns-in-Ok-clause-keeps g c = moved_keep c.perform.result _ _ c.perform.ensures.keep_cause c.perform.ensures.keep_quiet
-
 pub returns-in-Ok-clause-complete : goal.returns-in-Ok-clause-complete
 returns-in-Ok-clause-complete g c =
     rw c.in-Ok.ensures.command
     (λ calm reads writes.
     untroubled_way c.in-Ok.command.form (way_of c.in-Ok.command) (way_commits c.in-Ok.command) _ _ _ _ _ _ _ _ _ _ _ _ _ c.perform.ensures.ends calm c.perform.ensures.busy
-    (λ e. reads (c.perform.ensures.read_cause e)) (λ e. writes (c.perform.ensures.write_cause e)) c.perform.ensures.keep_cause c.perform.ensures.unkept)
+    (λ e. reads (rose_read c.perform.result _ _ c.perform.ensures.reads e)) (λ e. writes (rose_write c.perform.result _ _ c.perform.ensures.writes.0 e)) (rose_keep c.perform.result _ _ c.perform.ensures.keeps) c.perform.ensures.unkept)
 
 -- ---- no command
 

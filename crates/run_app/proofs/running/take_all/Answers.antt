@@ -1,5 +1,6 @@
 use Rattle.std.proofs.Common.{rules, arith, refl, ◌≡◌, ◌∙◌, ◌≤◌, ◌<◌, ◌+◌, ℕ, List, length, take, ◌⊎◌, inl, inr, ◌≢◌, slice_index_or, length-take}
-use Rattle.run_app.proofs.{KeepLemmas.left_of, RunLemmas.fed_number}
+use Rattle.run_app.proofs.{CountLemmas.{part_keeps, part_reads, part_undone, part_writes}, KeepLemmas.left_of}
+use Rattle.run_app.proofs.RunLemmas.{fed_number}
 use Rattle.run_app.proofs.DriveLemmas.{begun_by, stands_first, read_ends, feed_ends, goes_on, end_ends, long_ends, pass_ends, first_of, byte_or}
 use Rattle.run_app.proofs.running.take_all.Goals.{else-piece-ne10-via-then-piece-ne10+else-len-eq-LONGEST, else-piece-ne10-via-else-piece-ne10}
 use Rattle.run_app.specs.{Outcome.most_bytes, Machine.longest}
@@ -119,35 +120,35 @@ returns-else-piece-ne10-clause-ends g c = λ b s k.
     let a = c.loop-taken.invariant.at b s k in
     pass_ends c.args.form _ s _ _ _ _ _ _ _ _ _ c.read_at_most-2.new.piece _ a.2 moved (first_of c.read_at_most-2.new.piece 0 room) (left_of b _ _ _ _ a.0 a.1) full (byte_or _ _ short c.loop-taken.invariant.short)
 
-pub returns-in-Err-clause-keeps : goal.returns-in-Err-clause-keeps
-returns-in-Err-clause-keeps g c = record { honest = c.loop-taken.invariant.honest; count = c.loop-taken.invariant.keep_later }
+pub returns-in-Err-clause-later : goal.returns-in-Err-clause-later
+returns-in-Err-clause-later g c = record { honest = c.loop-taken.invariant.honest; count = c.loop-taken.invariant.keep_later }
 
-pub returns-in-Ok-eq0-clause-keeps : goal.returns-in-Ok-eq0-clause-keeps
-returns-in-Ok-eq0-clause-keeps g c = record {
-  honest = λ h. c.loop-taken.invariant.honest (c.end.ensures.keeps.honest h);
-  count = omega (arith, c.loop-taken.invariant.keep_later, c.end.ensures.keeps.count);
+pub returns-in-Ok-eq0-clause-later : goal.returns-in-Ok-eq0-clause-later
+returns-in-Ok-eq0-clause-later g c = record {
+  honest = λ h. c.loop-taken.invariant.honest (c.end.ensures.keeper_later.honest h);
+  count = omega (arith, c.loop-taken.invariant.keep_later, c.end.ensures.keeper_later.count);
 }
 
-pub returns-in-Err-feed-clause-keeps : goal.returns-in-Err-feed-clause-keeps
-returns-in-Err-feed-clause-keeps g c = record {
+pub returns-in-Err-feed-clause-later : goal.returns-in-Err-feed-clause-later
+returns-in-Err-feed-clause-later g c = record {
   honest = λ h. c.loop-taken.invariant.honest (c.feed.ensures.keeps.honest h);
   count = omega (arith, c.loop-taken.invariant.keep_later, c.feed.ensures.keeps.count);
 }
 
-pub returns-in-Err-read_at_most-clause-keeps : goal.returns-in-Err-read_at_most-clause-keeps
-returns-in-Err-read_at_most-clause-keeps g c = record { honest = c.loop-taken.invariant.honest; count = c.loop-taken.invariant.keep_later }
+pub returns-in-Err-read_at_most-clause-later : goal.returns-in-Err-read_at_most-clause-later
+returns-in-Err-read_at_most-clause-later g c = record { honest = c.loop-taken.invariant.honest; count = c.loop-taken.invariant.keep_later }
 
-pub returns-in-Ok-eq0-read_at_most-clause-keeps : goal.returns-in-Ok-eq0-read_at_most-clause-keeps
-returns-in-Ok-eq0-read_at_most-clause-keeps g c = record {
-  honest = λ h. c.loop-taken.invariant.honest (c.end-in-Ok-eq0-read_at_most.ensures.keeps.honest h);
-  count = omega (arith, c.loop-taken.invariant.keep_later, c.end-in-Ok-eq0-read_at_most.ensures.keeps.count);
+pub returns-in-Ok-eq0-read_at_most-clause-later : goal.returns-in-Ok-eq0-read_at_most-clause-later
+returns-in-Ok-eq0-read_at_most-clause-later g c = record {
+  honest = λ h. c.loop-taken.invariant.honest (c.end-in-Ok-eq0-read_at_most.ensures.keeper_later.honest h);
+  count = omega (arith, c.loop-taken.invariant.keep_later, c.end-in-Ok-eq0-read_at_most.ensures.keeper_later.count);
 }
 
-pub returns-then-len-eq-LONGEST-clause-keeps : goal.returns-then-len-eq-LONGEST-clause-keeps
-returns-then-len-eq-LONGEST-clause-keeps g c = record { honest = c.loop-taken.invariant.honest; count = c.loop-taken.invariant.keep_later }
+pub returns-then-len-eq-LONGEST-clause-later : goal.returns-then-len-eq-LONGEST-clause-later
+returns-then-len-eq-LONGEST-clause-later g c = record { honest = c.loop-taken.invariant.honest; count = c.loop-taken.invariant.keep_later }
 
-pub returns-else-piece-ne10-clause-keeps : goal.returns-else-piece-ne10-clause-keeps
-returns-else-piece-ne10-clause-keeps g c = record { honest = c.loop-taken.invariant.honest; count = c.loop-taken.invariant.keep_later }
+pub returns-else-piece-ne10-clause-later : goal.returns-else-piece-ne10-clause-later
+returns-else-piece-ne10-clause-later g c = record { honest = c.loop-taken.invariant.honest; count = c.loop-taken.invariant.keep_later }
 
 pub returns-in-Ok-eq0-clause-begun : goal.returns-in-Ok-eq0-clause-begun
 returns-in-Ok-eq0-clause-begun g c = c.end.ensures.begun
@@ -157,3 +158,31 @@ returns-in-Ok-eq0-read_at_most-clause-begun g c = c.end-in-Ok-eq0-read_at_most.e
 
 pub returns-in-Err-feed-clause-begun : goal.returns-in-Err-feed-clause-begun
 returns-in-Err-feed-clause-begun g c = rw c.status_of.ensures (begun_by c.in-Err-feed.stop)
+
+pub returns-in-Ok-eq0-clause-reads : goal.returns-in-Ok-eq0-clause-reads
+returns-in-Ok-eq0-clause-reads g c = rw c.end.ensures.read (c.in-Ok-eq0.ensures.quiet ∙ c.loop-taken.invariant.read_quiet)
+
+pub returns-in-Ok-eq0-clause-writes : goal.returns-in-Ok-eq0-clause-writes
+returns-in-Ok-eq0-clause-writes g c = rw (← c.loop-taken.invariant.write_quiet) c.end.ensures.writes
+
+pub returns-in-Ok-eq0-clause-keeps : goal.returns-in-Ok-eq0-clause-keeps
+returns-in-Ok-eq0-clause-keeps g c = rw (← c.loop-taken.invariant.keep_quiet) c.end.ensures.keeps
+
+pub returns-in-Ok-eq0-read_at_most-clause-reads : goal.returns-in-Ok-eq0-read_at_most-clause-reads
+returns-in-Ok-eq0-read_at_most-clause-reads g c = rw c.end-in-Ok-eq0-read_at_most.ensures.read (c.in-Ok-eq0-read_at_most.ensures.quiet ∙ c.loop-taken.invariant.read_quiet)
+
+pub returns-in-Ok-eq0-read_at_most-clause-writes : goal.returns-in-Ok-eq0-read_at_most-clause-writes
+returns-in-Ok-eq0-read_at_most-clause-writes g c = rw (← c.loop-taken.invariant.write_quiet) c.end-in-Ok-eq0-read_at_most.ensures.writes
+
+pub returns-in-Ok-eq0-read_at_most-clause-keeps : goal.returns-in-Ok-eq0-read_at_most-clause-keeps
+returns-in-Ok-eq0-read_at_most-clause-keeps g c = rw (← c.loop-taken.invariant.keep_quiet) c.end-in-Ok-eq0-read_at_most.ensures.keeps
+
+pub returns-in-Err-feed-clause-reads : goal.returns-in-Err-feed-clause-reads
+returns-in-Err-feed-clause-reads g c = rw (c.status_of.ensures, part_reads c.in-Err-feed.stop) (c.in-Ok.ensures.quiet ∙ c.loop-taken.invariant.read_quiet)
+
+pub returns-in-Err-feed-clause-writes : goal.returns-in-Err-feed-clause-writes
+returns-in-Err-feed-clause-writes g c =
+    rw (c.status_of.ensures, ← c.loop-taken.invariant.write_quiet) (part_writes c.in-Err-feed.stop _ _ c.in-Err-feed.ensures.cause c.in-Err-feed.ensures.quiet, λ e. absurd (part_undone c.in-Err-feed.stop e))
+
+pub returns-in-Err-feed-clause-keeps : goal.returns-in-Err-feed-clause-keeps
+returns-in-Err-feed-clause-keeps g c = rw (c.status_of.ensures, ← c.loop-taken.invariant.keep_quiet) (part_keeps c.in-Err-feed.stop _ _ c.in-Err-feed.ensures.keep_cause c.in-Err-feed.ensures.keep_quiet)

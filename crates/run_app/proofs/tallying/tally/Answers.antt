@@ -1,7 +1,7 @@
 use Rattle.std.proofs.Common.{refl}
 use Rattle.store_resuming.proofs.RestoreLemmas.{same_itself}
-use Rattle.run_app.proofs.ModeLemmas.{nothing_done, quiet_at, quiet_keep, quiet_read}
-use Rattle.run_app.proofs.ResumeLemmas.{no_rows_found, unresumed_busy, unresumed_cause, unresumed_quiet, unresumed_undone, unresumed_unread, unresumed_unwritten}
+use Rattle.run_app.proofs.ModeLemmas.{nothing_done}
+use Rattle.run_app.proofs.ResumeLemmas.{no_rows_found, unresumed_busy, unresumed_keeps, unresumed_unread, unresumed_writes}
 use Rattle.run_app.proofs.TallyLemmas.{not_tallied, tallied}
 use Rattle.run_app.proofs.tallying.tally.Goals as goal
 
@@ -15,11 +15,8 @@ returns-in-Ok-clause-ends g c =
     let e = c.restore.ensures in
     tallied c.args.form _ _ _ _ _ _ _ _ _ e.same e.stop _ _ c.in-Ok.ensures.chain c.count_ballots.ensures.counts
 
-pub returns-in-Ok-clause-keep_cause : goal.returns-in-Ok-clause-keep_cause
-returns-in-Ok-clause-keep_cause g c = λ e. absurd (c.count_ballots.ensures.keep e)
-
-pub returns-in-Ok-clause-keep_quiet : goal.returns-in-Ok-clause-keep_quiet
-returns-in-Ok-clause-keep_quiet g c = quiet_keep _ _ c.in-Ok.ensures.quiet
+pub returns-in-Ok-clause-keeps : goal.returns-in-Ok-clause-keeps
+returns-in-Ok-clause-keeps g c = rw c.count_ballots.ensures.keep c.in-Ok.ensures.quiet
 
 pub returns-in-Err-clause-ends : goal.returns-in-Err-clause-ends
 returns-in-Err-clause-ends g c =
@@ -29,26 +26,14 @@ returns-in-Err-clause-ends g c =
 pub returns-in-Err-clause-busy : goal.returns-in-Err-clause-busy
 returns-in-Err-clause-busy g c = rw c.status_of_restore.ensures (unresumed_busy c.in-Err.fault)
 
-pub returns-in-Err-clause-clean : goal.returns-in-Err-clause-clean
-returns-in-Err-clause-clean g c = rw c.status_of_restore.ensures (λ e. absurd (unresumed_undone c.in-Err.fault e))
+pub returns-in-Err-clause-reads : goal.returns-in-Err-clause-reads
+returns-in-Err-clause-reads g c = rw (c.status_of_restore.ensures, unresumed_unread c.in-Err.fault) refl
 
-pub returns-in-Err-clause-read_cause : goal.returns-in-Err-clause-read_cause
-returns-in-Err-clause-read_cause g c = rw c.status_of_restore.ensures (λ e. absurd (unresumed_unread c.in-Err.fault e))
+pub returns-in-Err-clause-writes : goal.returns-in-Err-clause-writes
+returns-in-Err-clause-writes g c = rw c.status_of_restore.ensures (unresumed_writes c.in-Err.fault _ _)
 
-pub returns-in-Err-clause-write_cause : goal.returns-in-Err-clause-write_cause
-returns-in-Err-clause-write_cause g c = rw c.status_of_restore.ensures (λ e. absurd (unresumed_unwritten c.in-Err.fault e))
-
-pub returns-in-Err-clause-read_quiet : goal.returns-in-Err-clause-read_quiet
-returns-in-Err-clause-read_quiet g c = quiet_read _ _ refl
-
-pub returns-in-Err-clause-write_quiet : goal.returns-in-Err-clause-write_quiet
-returns-in-Err-clause-write_quiet g c = quiet_at _ _ refl
-
-pub returns-in-Err-clause-keep_cause : goal.returns-in-Err-clause-keep_cause
-returns-in-Err-clause-keep_cause g c = rw c.status_of_restore.ensures (unresumed_cause c.in-Err.fault _ c.in-Err.ensures.cause)
-
-pub returns-in-Err-clause-keep_quiet : goal.returns-in-Err-clause-keep_quiet
-returns-in-Err-clause-keep_quiet g c = rw c.status_of_restore.ensures (unresumed_quiet c.in-Err.fault _ c.in-Err.ensures.quiet)
+pub returns-in-Err-clause-keeps : goal.returns-in-Err-clause-keeps
+returns-in-Err-clause-keeps g c = rw c.status_of_restore.ensures (unresumed_keeps c.in-Err.fault _ _ c.in-Err.ensures.cause c.in-Err.ensures.quiet)
 
 pub returns-in-Ok-clause-unkept : goal.returns-in-Ok-clause-unkept
 returns-in-Ok-clause-unkept g c = λ off. absurd (c.in-Ok.ensures.unkept off)

@@ -1,4 +1,4 @@
-use Rattle.run_app.proofs.ModeLemmas.{busy_so, cause_so, clean_so, keep_so, quiet_so, read_so, written_so}
+use Rattle.run_app.proofs.ModeLemmas.{busy_so, keep_so, read_so, writes_so, written_so}
 use Rattle.run_app.proofs.TallyLemmas.{unwritten, written_as}
 use Rattle.run_app.proofs.tallying.write_tally.Goals as goal
 
@@ -16,14 +16,8 @@ returns-in-Ok-clause-read g c = rw c.status_of_sink.ensures (read_so c.write_tex
 pub returns-in-Ok-clause-keep : goal.returns-in-Ok-clause-keep
 returns-in-Ok-clause-keep g c = rw c.status_of_sink.ensures (keep_so c.write_text.result)
 
-pub returns-in-Ok-clause-clean : goal.returns-in-Ok-clause-clean
-returns-in-Ok-clause-clean g c = rw c.status_of_sink.ensures (clean_so c.write_text.result _ c.write_text.ensures.clean)
-
-pub returns-in-Ok-clause-write_cause : goal.returns-in-Ok-clause-write_cause
-returns-in-Ok-clause-write_cause g c = rw c.status_of_sink.ensures (cause_so c.write_text.result _ c.write_text.ensures.cause)
-
-pub returns-in-Ok-clause-write_quiet : goal.returns-in-Ok-clause-write_quiet
-returns-in-Ok-clause-write_quiet g c = rw c.status_of_sink.ensures (quiet_so c.write_text.result _ c.write_text.ensures.quiet)
+pub returns-in-Ok-clause-writes : goal.returns-in-Ok-clause-writes
+returns-in-Ok-clause-writes g c = rw c.status_of_sink.ensures (writes_so c.write_text.result _ _ _ c.write_text.ensures.clean c.write_text.ensures.cause c.write_text.ensures.quiet)
 
 pub returns-in-Err-clause-ends : goal.returns-in-Err-clause-ends
 returns-in-Err-clause-ends g c = λ p sound s. unwritten _ _
