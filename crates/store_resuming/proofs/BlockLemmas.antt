@@ -134,8 +134,8 @@ voted_two t i w u a =
 handled_two : (e : Evidence) (i : Window) (w u : World Stakes Shared) → WorldsAlike SharedAlike w u → AreAlike (SameAlike {A = Bool}) (equivocation_handled slashing window_bans e i w) (equivocation_handled slashing window_bans e i u)
 handled_two e i w u a =
     from_two SharedAlike (SameAlike {A = Bool}) (equivocation_handled slashing window_bans e i) (equivocation_handled slashing_two window_bans e i) (λ k c. core_with (left SharedAlike) k c) (λ k c. core_with (right SharedAlike) k c)
-    (λ k x. equivocation_carried (left SharedAlike) k (two SharedAlike distribution_told distribution_tells) distribution_told (same_left SharedAlike distribution_told distribution_tells k) e i x)
-    (λ k x. equivocation_carried (right SharedAlike) k (two SharedAlike distribution_told distribution_tells) distribution_told (same_right SharedAlike distribution_told distribution_tells k) e i x)
+    (λ k x. equivocation_carried (left SharedAlike) k (two SharedAlike distribution_told distribution_tells) distribution_told (same_left SharedAlike distribution_told distribution_tells k) window_bans e i x)
+    (λ k x. equivocation_carried (right SharedAlike) k (two SharedAlike distribution_told distribution_tells) distribution_told (same_right SharedAlike distribution_told distribution_tells k) window_bans e i x)
     (λ k l c. (refl, refl, sides_alike SharedAlike k l c.2)) w u a
 
 beside_alike : (window : ℕ) (p q : State) → LooseAlike window p q → WorldsAlike SharedAlike (beside_window p) (beside_window q)
