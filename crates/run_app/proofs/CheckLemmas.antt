@@ -16,7 +16,8 @@ use Rattle.run_app.specs.Checks.{AreChecked, CheckEnds, ChecksAll, ChecksCalmly,
 use Rattle.run_app.specs.{Ending.status_of, Lines.{whole_from, lines_of}, Machine.{longest, not_read}}
 use Rattle.run_app.specs.Outcome.{AreEnded, most_bytes}
 use Rattle.run_app.specs.Taking.{Halts, IsUntaken, Leads, MayEnd, MayStop, MeetsLong, Pauses, TakesAll, TakesPart}
-use Rattle.run_app.proofs.{DriveLemmas.{told_first, told_rest}, StopLemmas.ended_first}
+use Rattle.run_app.{specs.Seen.{sink_told, source_told}, proofs.DriveLemmas.{told_first, told_rest}}
+use Rattle.run_app.proofs.StopLemmas.{ended_first}
 use Rattle.run_generated.specs.Writing.{Grows}
 
 -- ---- one line
@@ -209,21 +210,21 @@ module _ {C : Type 0} (form : Form) where
       let t = texts_written 1 (lines_of all.0) (c, w) (c', w') all.3 in
       (all.0, t.0, all.1, t.2, all.2, t.1)
 
-  pub checks_part : (c c' : C) (left left' w w' : Option (List ℕ)) (status : Status) → TakesPart Takes Stops status left left' (c, w) (c', w') → CheckEnds form left left' w w' status
+  pub checks_part : (c c' : C) (left left' w w' : Option (List ℕ)) (status : Status) → TakesPart Takes Stops status left left' (c, w) (c', w') → CheckEnds form (source_told left left') (sink_told w w') status
   checks_part c c' left left' w w' status part =
       let t = untaken_ends status part.0 part.1 (c, w) (c', w') part.3 in
       (part.0, part.1, t.0, part.2, t.1, t.2)
 
 -- all lines were answered, and the sink was flushed
-pub done_ends : (form : Form) (left left' w w' w'' : Option (List ℕ)) → ChecksAll form left left' w w' → Stays w' w'' → CheckEnds form left left' w w'' Done
+pub done_ends : (form : Form) (left left' w w' w'' : Option (List ℕ)) → ChecksAll form left left' w w' → Stays w' w'' → CheckEnds form (source_told left left') (sink_told w w'') Done
 done_ends form left left' w w' w'' all same = (all.0, [], all.1, all.2, λ old told. same (old ++ all.1) (all.3 old told), (refl, all.4, all.5))
 
 -- or it could not be
-pub unflushed_ends : (form : Form) (left left' w w' w'' : Option (List ℕ)) → ChecksAll form left left' w w' → Stays w' w'' → CheckEnds form left left' w w'' WriteFault
+pub unflushed_ends : (form : Form) (left left' w w' w'' : Option (List ℕ)) → ChecksAll form left left' w w' → Stays w' w'' → CheckEnds form (source_told left left') (sink_told w w'') WriteFault
 unflushed_ends form left left' w w' w'' all same = (all.0, [], all.1, all.2, λ old told. same (old ++ all.1) (all.3 old told), (all.4, inr (refl, all.5)))
 
 -- before anything is taken, memory may be wanting
-pub check_unbegun : (form : Form) (left w : Option (List ℕ)) → CheckEnds form left left w w NoMemory
+pub check_unbegun : (form : Form) (left w : Option (List ℕ)) → CheckEnds form (source_told left left) (sink_told w w) NoMemory
 check_unbegun form left w =
     let none = told_rest left [] left (told_first left) in (
       [],
@@ -298,7 +299,7 @@ module _ (form : Form) (input taken rest : List ℕ) (good_text : List ℕ) (goo
   untroubled NotFound text h read write = absurd h
   untroubled (NoPast base last) text h read write = absurd h
 
-pub untroubled_check : (form : Form) (left left' w w' : Option (List ℕ)) (status : Status) → CheckEnds form left left' w w' status → ChecksCalmly form left → (status ≡ ReadFault → ⊥) → (status ≡ WriteFault → ⊥) → (status ≡ Done) ⊎ (status ≡ NoMemory)
+pub untroubled_check : (form : Form) (left left' w w' : Option (List ℕ)) (status : Status) → CheckEnds form (source_told left left') (sink_told w w') status → ChecksCalmly form left → (status ≡ ReadFault → ⊥) → (status ≡ WriteFault → ⊥) → (status ≡ Done) ⊎ (status ≡ NoMemory)
 untroubled_check form left left' w w' status ends calm read write =
     let moved = ends.3 calm.input calm.left_is in
     untroubled form calm.input ends.0 ends.1 calm.text calm.good calm.short moved.0 status ends.2 ends.5 read write

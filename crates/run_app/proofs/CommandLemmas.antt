@@ -13,13 +13,13 @@ use Rattle.run_app.specs.declared.performing.Way.{Way, TheVariants.{Plain, Kept,
 use Rattle.run_app.specs.Commands.{CommandEnds, CommandUnkept, IsUntroubledBy, WayEnds, WayUnkept, way_of}
 use Rattle.run_app.specs.Counts.{IsOfWords, Moved, is_keep_fault, is_read_fault, is_write_fault}
 use Rattle.run_app.specs.{Ending.status_of_words, Kept.AreSome, Modes.{IsTried, IsUntroubledAt, ModeEnds}}
-use Rattle.run_app.{specs.{Unkept.ModeUnkept, Writes.IsWritten}, proofs.CheckLemmas.{check_unbegun, untroubled_check}}
-use Rattle.run_app.proofs.DriveLemmas.{untroubled_run}
+use Rattle.run_app.specs.{Unkept.ModeUnkept, Writes.IsWritten, Seen.{keeper_told, sink_told, source_told}}
+use Rattle.run_app.proofs.{CheckLemmas.{check_unbegun, untroubled_check}, DriveLemmas.untroubled_run}
 use Rattle.run_app.proofs.ModeLemmas.{finds_none, nothing, nothing_done, rows_left, same_rows, tried_without_memory, unbegun_replay, untouched, written_to_end}
 use Rattle.run_app.proofs.{ResumeLemmas.{untroubled_query, untroubled_resume}, TallyLemmas.untroubled_tally}
 
 -- before anything is taken, a run may end where memory is wanting, and leaves all as it was
-mode_unbegun : (form : Form) (m : Mode) (left w : Option (List ℕ)) (rows : Option (List Pair)) (honest : Type 0) (leaves : List Pair → Type 0) → ModeEnds form m left left w w rows rows honest leaves leaves NoMemory
+mode_unbegun : (form : Form) (m : Mode) (left w : Option (List ℕ)) (rows : Option (List Pair)) (honest : Type 0) (leaves : List Pair → Type 0) → ModeEnds form m (source_told left left) (sink_told w w) (keeper_told rows rows honest leaves leaves) NoMemory
 mode_unbegun form Replay left w rows honest leaves = inr (tt, nothing_done left w, rows_left rows rows honest leaves leaves (same_rows rows) (λ h l x. x))
 mode_unbegun form Resume left w rows honest leaves = inr (inl (tt, nothing_done left w, rows_left rows rows honest leaves leaves (same_rows rows) (λ h l x. x)))
 mode_unbegun form (Query what) left w rows honest leaves = (refl, (rows_left rows rows honest leaves leaves (same_rows rows) (λ h l x. x), inr (tt, nothing w _ refl)))
@@ -28,19 +28,19 @@ mode_unbegun form Check left w rows honest leaves = (check_unbegun form left w, 
 mode_unbegun form (Gen seed count) left w rows honest leaves = ((refl, nothing w _ (record { rest = generated_text form seed count; text_is = refl })), untouched rows leaves)
 mode_unbegun form (Trial seed count) left w rows honest leaves = ((refl, tried_without_memory (trial_of seed count) w), untouched rows leaves)
 
-way_unbegun : (form : Form) (way : Way) (left w : Option (List ℕ)) (rows : Option (List Pair)) (honest : Type 0) (leaves : List Pair → Type 0) → WayEnds form way left left w w rows rows honest leaves leaves NoMemory
+way_unbegun : (form : Form) (way : Way) (left w : Option (List ℕ)) (rows : Option (List Pair)) (honest : Type 0) (leaves : List Pair → Type 0) → WayEnds form way (source_told left left) (sink_told w w) (keeper_told rows rows honest leaves leaves) NoMemory
 way_unbegun form (Plain m) left w rows honest leaves = mode_unbegun form m left w rows honest leaves
 way_unbegun form (Kept m) left w rows honest leaves = inr (tt, nothing_done left w, rows_left rows rows honest leaves leaves (same_rows rows) (λ h l x. x))
 way_unbegun form (Past height what) left w rows honest leaves = (refl, (rows_left rows rows honest leaves leaves (same_rows rows) (λ h l x. x), inr (tt, nothing w _ refl)))
 
-ends_unbegun : (o : Option Command) (left w : Option (List ℕ)) (rows : Option (List Pair)) (honest : Type 0) (leaves : List Pair → Type 0) → CommandEnds o left left w w rows rows honest leaves leaves NoMemory
+ends_unbegun : (o : Option Command) (left w : Option (List ℕ)) (rows : Option (List Pair)) (honest : Type 0) (leaves : List Pair → Type 0) → CommandEnds o (source_told left left) (sink_told w w) (keeper_told rows rows honest leaves leaves) NoMemory
 ends_unbegun None left w rows honest leaves = (nothing_done left w, untouched rows leaves)
 ends_unbegun (Some c) left w rows honest leaves = way_unbegun c.form (way_of c) left w rows honest leaves
 
 -- ---- words that ask for nothing
 
-pub ends_unasked : (f : WordsFault) (o : Option Command) (left w : Option (List ℕ)) (rows : Option (List Pair)) (honest : Type 0) (leaves : List Pair → Type 0) → (f ≡ words.Usage → o ≡ None) → CommandEnds o left left w w rows rows honest leaves leaves (status_of_words f)
-ends_unasked words.Usage o left w rows honest leaves none = subst (λ p. CommandEnds p left left w w rows rows honest leaves leaves Usage) (sym (none refl)) (nothing_done left w, untouched rows leaves)
+pub ends_unasked : (f : WordsFault) (o : Option Command) (left w : Option (List ℕ)) (rows : Option (List Pair)) (honest : Type 0) (leaves : List Pair → Type 0) → (f ≡ words.Usage → o ≡ None) → CommandEnds o (source_told left left) (sink_told w w) (keeper_told rows rows honest leaves leaves) (status_of_words f)
+ends_unasked words.Usage o left w rows honest leaves none = subst (λ p. CommandEnds p (source_told left left) (sink_told w w) (keeper_told rows rows honest leaves leaves) Usage) (sym (none refl)) (nothing_done left w, untouched rows leaves)
 ends_unasked words.NoMemory o left w rows honest leaves none = ends_unbegun o left w rows honest leaves
 
 pub is_of_no_command : (f : WordsFault) (o : Option Command) → (f ≡ words.Usage → o ≡ None) → IsOfWords o (status_of_words f)
@@ -65,7 +65,7 @@ complete_unasked words.Usage o left keeps rows honest' faults faults' none calm 
 complete_unasked words.NoMemory o left keeps rows honest' faults faults' none calm = inr refl
 
 -- the same over a keeper that keeps nothing
-mode_unkept : (m : Mode) (left w : Option (List ℕ)) → ModeUnkept m left left w w NoMemory
+mode_unkept : (m : Mode) (left w : Option (List ℕ)) → ModeUnkept m (source_told left left) (sink_told w w) NoMemory
 mode_unkept Replay left w = λ e. absurd cc
 mode_unkept Resume left w = (tt, nothing_done left w)
 mode_unkept (Query what) left w = (tt, nothing_done left w)
@@ -74,23 +74,23 @@ mode_unkept Check left w = tt
 mode_unkept (Gen seed count) left w = tt
 mode_unkept (Trial seed count) left w = tt
 
-way_unkept : (way : Way) (left w : Option (List ℕ)) → WayUnkept way left left w w NoMemory
+way_unkept : (way : Way) (left w : Option (List ℕ)) → WayUnkept way (source_told left left) (sink_told w w) NoMemory
 way_unkept (Plain m) left w = mode_unkept m left w
 way_unkept (Kept m) left w = (mode_unkept m left w, λ e. absurd cc)
 way_unkept (Past height what) left w = (tt, nothing_done left w)
 
-unkept_unbegun : (o : Option Command) (left w : Option (List ℕ)) → CommandUnkept o left left w w NoMemory
+unkept_unbegun : (o : Option Command) (left w : Option (List ℕ)) → CommandUnkept o (source_told left left) (sink_told w w) NoMemory
 unkept_unbegun None left w = tt
 unkept_unbegun (Some c) left w = way_unkept (way_of c) left w
 
-pub unkept_unasked : (f : WordsFault) (o : Option Command) (left w : Option (List ℕ)) → (f ≡ words.Usage → o ≡ None) → CommandUnkept o left left w w (status_of_words f)
-unkept_unasked words.Usage o left w none = subst (λ p. CommandUnkept p left left w w Usage) (sym (none refl)) tt
+pub unkept_unasked : (f : WordsFault) (o : Option Command) (left w : Option (List ℕ)) → (f ≡ words.Usage → o ≡ None) → CommandUnkept o (source_told left left) (sink_told w w) (status_of_words f)
+unkept_unasked words.Usage o left w none = subst (λ p. CommandUnkept p (source_told left left) (sink_told w w) Usage) (sym (none refl)) tt
 unkept_unasked words.NoMemory o left w none = unkept_unbegun o left w
 
 -- ---- runs that come to their end
 
-pub untroubled_command : (form : Form) (m : Mode) (left left' w w' : Option (List ℕ)) (keeps : Bool) (rows rows' : Option (List Pair)) (honest' : Type 0) (leaves leaves' : List Pair → Type 0) (faults faults' : ℕ) (s : Status) → ModeEnds form m left left' w w' rows rows' honest' leaves leaves' s
-    → IsUntroubledAt form m left keeps rows honest' faults faults' → (s ≡ Usage → ⊥) → (s ≡ ReadFault → ⊥) → (s ≡ WriteFault → ⊥) → (s ≡ KeepFault → Rose faults faults') → (keeps ≡ false → ModeUnkept m left left' w w' s) → (s ≡ Done) ⊎ (s ≡ NoMemory)
+pub untroubled_command : (form : Form) (m : Mode) (left left' w w' : Option (List ℕ)) (keeps : Bool) (rows rows' : Option (List Pair)) (honest' : Type 0) (leaves leaves' : List Pair → Type 0) (faults faults' : ℕ) (s : Status) → ModeEnds form m (source_told left left') (sink_told w w') (keeper_told rows rows' honest' leaves leaves') s
+    → IsUntroubledAt form m left keeps rows honest' faults faults' → (s ≡ Usage → ⊥) → (s ≡ ReadFault → ⊥) → (s ≡ WriteFault → ⊥) → (s ≡ KeepFault → Rose faults faults') → (keeps ≡ false → ModeUnkept m (source_told left left') (sink_told w w') s) → (s ≡ Done) ⊎ (s ≡ NoMemory)
 untroubled_command form Replay left left' w w' keeps rows rows' honest' leaves leaves' faults faults' s (inl ends) calm busy read write keep unkept =
     untroubled_run form _ None left left' w w' s ends calm.0 busy read write (λ e. calm.1.quiet (keep e))
 untroubled_command form Replay left left' w w' keeps rows rows' honest' leaves leaves' faults faults' s (inr ends) calm busy read write keep unkept =

@@ -22,6 +22,7 @@ use Rattle.run_app.specs.{Machine.not_applied, Kept.{AreLeft, AreSome, AreUntouc
 use Rattle.run_app.specs.{Counts.{Moved, is_keep_fault, is_read_fault, is_write_fault}, Ending.status_of}
 use Rattle.run_app.specs.{Modes.{HasFewBlocks, Tries}, Outcome.UnlessWriteFault}
 use Rattle.run_app.specs.Writes.{Adds, IsWritten, Leaves, Writes, status_of_sink}
+use Rattle.run_app.specs.Seen.{keeper_told, sink_told, source_told}
 
 -- ---- a text that is written
 
@@ -246,10 +247,10 @@ few_blocks (word ∷ words) c e = by (is_bech32 word) e
 -- ---- runs that do not begin
 
 -- nothing was taken or written
-pub nothing_done : (left w : Option (List ℕ)) → Leaves left left w w (λ text. text ≡ [])
+pub nothing_done : (left w : Option (List ℕ)) → Leaves (source_told left left) (sink_told w w) (λ text. text ≡ [])
 nothing_done left w = (refl, nothing w _ refl)
 
-pub rows_left : (rows rows' : Option (List Pair)) (honest' : Type 0) (leaves leaves' : List Pair → Type 0) → Makes (λ before. before) rows rows' → (honest' → (left : List Pair) → leaves' left → leaves left) → AreLeft rows rows' honest' leaves leaves'
+pub rows_left : (rows rows' : Option (List Pair)) (honest' : Type 0) (leaves leaves' : List Pair → Type 0) → Makes (λ before. before) rows rows' → (honest' → (left : List Pair) → leaves' left → leaves left) → AreLeft (keeper_told rows rows' honest' leaves leaves')
 rows_left rows rows' honest' leaves leaves' same stop = record { rows_are = same; stop = stop }
 
 pub untouched : (rows : Option (List Pair)) (leaves : List Pair → Type 0) → AreUntouched rows rows leaves leaves

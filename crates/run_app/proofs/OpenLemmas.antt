@@ -9,7 +9,7 @@ use Rattle.store_history.specs.declared.loading.OpenFault.TheVariants as unopene
 use Rattle.run_app.specs.declared.status.Status.{Status, TheVariants.{Done, Usage, BadStore}}
 use Rattle.run_app.specs.Counts.{Moved, is_keep_fault, is_read_fault, is_write_fault}
 use Rattle.run_app.specs.{Histories.{IsCommitting, IsUnopened, status_of_open}, Modes.ModeEnds, Unkept.ModeUnkept}
-use Rattle.run_app.proofs.ModeLemmas.{nothing_done}
+use Rattle.run_app.{specs.Seen.{keeper_told, sink_told, source_told}, proofs.ModeLemmas.nothing_done}
 
 -- how a history was not read
 abbrev unread : OpenFault → Result History OpenFault
@@ -21,7 +21,7 @@ is_unopened unopened.Failed rows rows' honest' told bad = tt
 is_unopened unopened.BadHistory rows rows' honest' told bad = record { are = bad refl; told = told }
 is_unopened unopened.NoMemory rows rows' honest' told bad = tt
 
-pub mode_unopened : (f : OpenFault) (m : Mode) (left w : Option (List ℕ)) → IsCommitting m → (IsErrOf (unread f) unopened.BadHistory → ⊥) → ModeUnkept m left left w w (status_of_open f) × (status_of_open f ≡ BadStore → ⊥)
+pub mode_unopened : (f : OpenFault) (m : Mode) (left w : Option (List ℕ)) → IsCommitting m → (IsErrOf (unread f) unopened.BadHistory → ⊥) → ModeUnkept m (source_told left left) (sink_told w w) (status_of_open f) × (status_of_open f ≡ BadStore → ⊥)
 mode_unopened unopened.Failed Replay left w commits never = (λ e. absurd cc, λ e. absurd cc)
 mode_unopened unopened.Failed Resume left w commits never = ((tt, nothing_done left w), λ e. absurd cc)
 mode_unopened unopened.Failed (Query what) left w commits never = absurd commits
@@ -39,14 +39,14 @@ mode_unopened unopened.NoMemory (Gen seed count) left w commits never = absurd c
 mode_unopened unopened.NoMemory (Trial seed count) left w commits never = absurd commits
 
 -- a run over a keeper that keeps nothing does not end on a bad store
-pub never_bad_store : (form : Form) (m : Mode) (left left' w w' : Option (List ℕ)) (rows rows' : Option (List Pair)) (honest' : Type 0) (leaves leaves' : List Pair → Type 0) (s : Status) → IsCommitting m → ModeEnds form m left left' w w' rows rows' honest' leaves leaves' s
-    → ModeUnkept m left left' w w' s → s ≡ BadStore → ⊥
-never_bad_store form Replay left left' w w' rows rows' honest' leaves leaves' s commits ends unkept e = by (subst (λ (t : Status). ModeEnds form Replay left left' w w' rows rows' honest' leaves leaves' t) e ends)
+pub never_bad_store : (form : Form) (m : Mode) (left left' w w' : Option (List ℕ)) (rows rows' : Option (List Pair)) (honest' : Type 0) (leaves leaves' : List Pair → Type 0) (s : Status) → IsCommitting m → ModeEnds form m (source_told left left') (sink_told w w') (keeper_told rows rows' honest' leaves leaves') s
+    → ModeUnkept m (source_told left left') (sink_told w w') s → s ≡ BadStore → ⊥
+never_bad_store form Replay left left' w w' rows rows' honest' leaves leaves' s commits ends unkept e = by (subst (λ (t : Status). ModeEnds form Replay (source_told left left') (sink_told w w') (keeper_told rows rows' honest' leaves leaves') t) e ends)
   where
-    by : ModeEnds form Replay left left' w w' rows rows' honest' leaves leaves' BadStore → ⊥
+    by : ModeEnds form Replay (source_told left left') (sink_told w w') (keeper_told rows rows' honest' leaves leaves') BadStore → ⊥
     by (inl r) = r.5
     by (inr u) = u.0
-never_bad_store form Resume left left' w w' rows rows' honest' leaves leaves' s commits ends unkept e = (subst (λ (t : Status). ModeUnkept Resume left left' w w' t) e unkept).0
+never_bad_store form Resume left left' w w' rows rows' honest' leaves leaves' s commits ends unkept e = (subst (λ (t : Status). ModeUnkept Resume (source_told left left') (sink_told w w') t) e unkept).0
 never_bad_store form (Query what) left left' w w' rows rows' honest' leaves leaves' s commits ends unkept e = commits
 never_bad_store form Tally left left' w w' rows rows' honest' leaves leaves' s commits ends unkept e = commits
 never_bad_store form Check left left' w w' rows rows' honest' leaves leaves' s commits ends unkept e = commits

@@ -18,7 +18,7 @@ use Rattle.run_app.specs.declared.status.Status.{Status}
 use Rattle.run_app.specs.declared.status.Status.TheVariants.{Done, Usage, BadInput, Limit, ReadFault, WriteFault, KeepFault, NoMemory, BadStore, WrongStore, NotFound, NoPast}
 use Rattle.run_app.specs.Counts.{Moved, is_keep_fault, is_read_fault, is_write_fault}
 use Rattle.run_app.specs.Histories.{AreBadAt, AreRowsAt, AskedAt, FitsPast, IsRefusedAt, IsUnasked, PastAnswers, PastEnds, TellPast, status_of_past}
-use Rattle.run_app.specs.{Resumes.{Answers, IsAnswered, status_of_restore}, Writes.Adds}
+use Rattle.run_app.specs.{Resumes.{Answers, IsAnswered, status_of_restore}, Writes.Adds, Seen.{keeper_told, sink_told}}
 use Rattle.run_app.proofs.ModeLemmas.{written_to_end}
 
 -- ---- the past rows of a list
@@ -184,6 +184,6 @@ module _ (form : Form) (height : ℕ) (what : Query) (rows rows' : Option (List 
       let text : IsAnswered (Some fits.answer.0) s told.0 = subst (λ (o : Option (List ℕ)). IsAnswered o s told.0) fits.answer.1 told.2 in
       written_to_end fits.answer.0 told.0 s text write
 
-  pub past_ends : (left left' w w' : Option (List ℕ)) (leaves leaves' : List Pair → Type 0) (s : Status) → PastEnds form height what w w' rows rows' honest' leaves leaves' s → (s ≡ WriteFault → ⊥) → (s ≡ KeepFault → ⊥) → (s ≡ Done) ⊎ (s ≡ NoMemory)
+  pub past_ends : (left left' w w' : Option (List ℕ)) (leaves leaves' : List Pair → Type 0) (s : Status) → PastEnds form height what (sink_told w w') (keeper_told rows rows' honest' leaves leaves') s → (s ≡ WriteFault → ⊥) → (s ≡ KeepFault → ⊥) → (s ≡ Done) ⊎ (s ≡ NoMemory)
   past_ends left left' w w' leaves leaves' s (are, inl a) write keep = asked_ends w w' s a write
   past_ends left left' w w' leaves leaves' s (are, inr (why, none)) write keep = unasked_ends s why keep

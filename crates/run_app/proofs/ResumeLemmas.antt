@@ -25,8 +25,8 @@ use Rattle.run_app.specs.declared.status.Status.TheVariants.{Done, Usage, BadInp
 use Rattle.run_app.specs.{Counts.{Moved, is_keep_fault, is_read_fault, is_write_fault}, Machine.Standing}
 use Rattle.run_app.specs.{Kept.{AreLeft, Began, BeganOnRows, Keeping, LeftIn}, Outcome.RunEnds}
 use Rattle.run_app.specs.Resumes.{Answers, AsksCalmly, Asked, FitsState, GoesOn, IsAnswered, IsUnresumed, QueryEnds, ResumeEnds, ResumesCalmly, on_rows_of, status_of_restore}
-use Rattle.run_app.{specs.{Unkept.IsOfNoRows, Writes.{Adds, Writes}}, proofs.DriveLemmas.untroubled_run}
-use Rattle.run_app.proofs.ModeLemmas.{nothing, nothing_done, rows_left, written_to_end}
+use Rattle.run_app.specs.{Unkept.IsOfNoRows, Writes.{Adds, Writes}, Seen.{keeper_told, sink_told, source_told}}
+use Rattle.run_app.proofs.{DriveLemmas.untroubled_run, ModeLemmas.{nothing, nothing_done, rows_left, written_to_end}}
 
 -- ---- rows that were loaded
 
@@ -142,7 +142,7 @@ module _ (form : Form) (rows told : Option (List Pair)) (honest : Type 0) (chain
 
     -- or were not
     pub not_brought : (before : List Pair → Type 0) (why : Unkept) (left w : Option (List ℕ)) (s : Status) → (s ≡ KeepFault) ⊎ (s ≡ NoMemory) → (list ≡ [] → ⊥) → Commits (Err why) (items_of first) told told' honest honest' leaves leaves' → (honest → (l : List Pair) → leaves l → before l)
-        → ResumeEnds form left left w w rows told' honest' before leaves' s
+        → ResumeEnds form (source_told left left) (sink_told w w) (keeper_told rows told' honest' before leaves') s
     not_brought before why left w s is some k stop = inr (inr (
       record {
         first = first;
@@ -175,11 +175,11 @@ unresumed fault.Empty rows rows' honest' h = (refl, h)
 unresumed fault.Unsound rows rows' honest' h = h
 
 pub not_resumed : (form : Form) (f : RestoreFault) (left w : Option (List ℕ)) (rows rows' : Option (List Pair)) (honest' : Type 0) (leaves leaves' : List Pair → Type 0) → IsUnrestored rows rows' honest' f → Makes (λ before. before) rows rows' → (honest' → (l : List Pair) → leaves' l → leaves l)
-    → ResumeEnds form left left w w rows rows' honest' leaves leaves' (status_of_restore f)
+    → ResumeEnds form (source_told left left) (sink_told w w) (keeper_told rows rows' honest' leaves leaves') (status_of_restore f)
 not_resumed form f left w rows rows' honest' leaves leaves' h same stop = inr (inl (unresumed f rows rows' honest' h, nothing_done left w, rows_left rows rows' honest' leaves leaves' same stop))
 
 pub not_asked : (form : Form) (f : RestoreFault) (what : Query) (w : Option (List ℕ)) (rows rows' : Option (List Pair)) (honest' : Type 0) (leaves leaves' : List Pair → Type 0) → IsUnrestored rows rows' honest' f → Makes (λ before. before) rows rows' → (honest' → (l : List Pair) → leaves' l → leaves l)
-    → QueryEnds form what w w rows rows' honest' leaves leaves' (status_of_restore f)
+    → QueryEnds form what (sink_told w w) (keeper_told rows rows' honest' leaves leaves') (status_of_restore f)
 not_asked form f what w rows rows' honest' leaves leaves' h same stop = (rows_left rows rows' honest' leaves leaves' same stop, inr (unresumed f rows rows' honest' h, nothing w _ refl))
 
 -- nor does one come of a keeper that keeps nothing, and nothing is said of its rows
@@ -227,7 +227,7 @@ answered_without_memory (Some whole) w = nothing w _ (record { rest = whole; tex
 answered_without_memory None w = nothing w _ (inr refl, refl)
 
 pub asked : (form : Form) (what : Query) (w w' : Option (List ℕ)) (rows rows' : Option (List Pair)) (honest' : Type 0) (leaves leaves' : List Pair → Type 0) (s : Status) (chain : Chained) → IsChainOf (AreLoaded rows rows' honest') chain → Makes (λ before. before) rows rows' → (honest' → (l : List Pair) → leaves' l → leaves l)
-    → ((p : State) → StandsFor chain.kept p → Answers (answered_by form (report_of p) what) w w' s) → QueryEnds form what w w' rows rows' honest' leaves leaves' s
+    → ((p : State) → StandsFor chain.kept p → Answers (answered_by form (report_of p) what) w w' s) → QueryEnds form what (sink_told w w') (keeper_told rows rows' honest' leaves leaves') s
 asked form what w w' rows rows' honest' leaves leaves' s chain c same stop answers = (
   rows_left rows rows' honest' leaves leaves' same stop,
   inl (record { first = c.first; storable = c.storable; loaded = c.rows_are; answered = λ p q alike. answers p (c.stands p q alike) }),
@@ -280,7 +280,7 @@ alike_of p first rows honest' faults faults' fits loaded =
     let (f, is) = fits.rows_are in
     (state_rows f p, (f, refl), at_rows rows (state_rows f p) (λ now. AreStateRows now first) is loaded)
 
-pub untroubled_resume : (form : Form) (left left' w w' : Option (List ℕ)) (rows rows' : Option (List Pair)) (honest' : Type 0) (leaves leaves' : List Pair → Type 0) (faults faults' : ℕ) (s : Status) → ResumeEnds form left left' w w' rows rows' honest' leaves leaves' s → ResumesCalmly form left rows honest' faults faults'
+pub untroubled_resume : (form : Form) (left left' w w' : Option (List ℕ)) (rows rows' : Option (List Pair)) (honest' : Type 0) (leaves leaves' : List Pair → Type 0) (faults faults' : ℕ) (s : Status) → ResumeEnds form (source_told left left') (sink_told w w') (keeper_told rows rows' honest' leaves leaves') s → ResumesCalmly form left rows honest' faults faults'
     → (s ≡ Usage → ⊥) → (s ≡ ReadFault → ⊥) → (s ≡ WriteFault → ⊥) → (s ≡ KeepFault → Rose faults faults') → (s ≡ Done) ⊎ (s ≡ NoMemory)
 untroubled_resume form left left' w w' rows rows' honest' leaves leaves' faults faults' s (inl goes) calm busy read write keep =
     let fits = calm.2 in
@@ -296,7 +296,7 @@ untroubled_resume form left left' w w' rows rows' honest' leaves leaves' faults 
 answered_to_end : (text written : List ℕ) (s : Status) (due : Option (List ℕ)) → due ≡ Some text → IsAnswered due s written → (s ≡ WriteFault → ⊥) → (s ≡ Done) ⊎ (s ≡ NoMemory)
 answered_to_end text written s due is h write = written_to_end text written s (subst (λ (o : Option (List ℕ)). IsAnswered o s written) is h) write
 
-pub untroubled_query : (form : Form) (what : Query) (w w' : Option (List ℕ)) (rows rows' : Option (List Pair)) (honest' : Type 0) (leaves leaves' : List Pair → Type 0) (faults faults' : ℕ) (s : Status) → QueryEnds form what w w' rows rows' honest' leaves leaves' s → AsksCalmly form what rows honest' faults faults'
+pub untroubled_query : (form : Form) (what : Query) (w w' : Option (List ℕ)) (rows rows' : Option (List Pair)) (honest' : Type 0) (leaves leaves' : List Pair → Type 0) (faults faults' : ℕ) (s : Status) → QueryEnds form what (sink_told w w') (keeper_told rows rows' honest' leaves leaves') s → AsksCalmly form what rows honest' faults faults'
     → (s ≡ WriteFault → ⊥) → (s ≡ KeepFault → Rose faults faults') → (s ≡ Done) ⊎ (s ≡ NoMemory)
 untroubled_query form what w w' rows rows' honest' leaves leaves' faults faults' s (left, inl answers) calm write keep =
     let p = calm.0 in

@@ -12,6 +12,7 @@ use Rattle.run_app.specs.{Histories.IsCommitting, Kept.{AreLeft, AreSome, BeganO
 use Rattle.run_app.specs.{Machine.Standing, Modes.{ModeEnds, ReplayEnds}, Outcome.{Ends, Passed, RunEnds}}
 use Rattle.run_app.specs.Resumes.{GoesOn, IsUnmigrated, IsUnresumed, ResumeEnds}
 use Rattle.run_app.specs.Runs.{Answered, Finished, Held, Lacking, Named, Reported, Unkept, Wrote}
+use Rattle.run_app.specs.Seen.{keeper_told, sink_told, source_told}
 
 -- ---- what is left of a run, by something weaker
 
@@ -165,7 +166,7 @@ module _ (rows mid : Option (List Pair)) (honest' : Type 0) (same : Makes (λ be
   still_loaded told' P l = record { are = l.are; told = λ h some. l.told h (still h some) }
 
   module _ (told' : Option (List Pair)) (leaves at leaves' : List Pair → Type 0) (back : honest' → (left : List Pair) → at left → leaves left) where
-    left_before : AreLeft mid told' honest' at leaves' → AreLeft rows told' honest' leaves leaves'
+    left_before : AreLeft (keeper_told mid told' honest' at leaves') → AreLeft (keeper_told rows told' honest' leaves leaves')
     left_before l = record { rows_are = makes_later (λ before. before) rows mid told' same l.rows_are; stop = λ h left may. back h left (l.stop h left may) }
 
     began_before : (first : Standing) → BeganOnRows (record { first = first; rows = mid }) → BeganOnRows (record { first = first; rows = rows })
@@ -228,16 +229,16 @@ module _ (rows mid : Option (List Pair)) (honest' : Type 0) (same : Makes (λ be
         by h left (inl may) = inl (back h left may)
         by h left (inr new) = inr new
 
-    replay_before : (form : Form) (left left' w w' : Option (List ℕ)) (status : Status) → ReplayEnds form left left' w w' mid told' honest' at leaves' status → ReplayEnds form left left' w w' rows told' honest' leaves leaves' status
+    replay_before : (form : Form) (left left' w w' : Option (List ℕ)) (status : Status) → ReplayEnds form (source_told left left') (sink_told w w') (keeper_told mid told' honest' at leaves') status → ReplayEnds form (source_told left left') (sink_told w w') (keeper_told rows told' honest' leaves leaves') status
     replay_before form left left' w w' status (inl ends) = inl (run_before form None left left' w w' status ends)
     replay_before form left left' w w' status (inr ends) = inr (unbegun_before status ends.0, ends.1, left_before ends.2)
 
-    resume_before : (form : Form) (left left' w w' : Option (List ℕ)) (status : Status) → ResumeEnds form left left' w w' mid told' honest' at leaves' status → ResumeEnds form left left' w w' rows told' honest' leaves leaves' status
+    resume_before : (form : Form) (left left' w w' : Option (List ℕ)) (status : Status) → ResumeEnds form (source_told left left') (sink_told w w') (keeper_told mid told' honest' at leaves') status → ResumeEnds form (source_told left left') (sink_told w w') (keeper_told rows told' honest' leaves leaves') status
     resume_before form left left' w w' status (inl g) = inl (went_on_before form left left' w w' status g)
     resume_before form left left' w w' status (inr (inl ends)) = inr (inl (unresumed_before status ends.0, ends.1, left_before ends.2))
     resume_before form left left' w w' status (inr (inr ends)) = inr (inr (unmigrated_before status ends.0, ends.1))
 
-    pub mode_before : (form : Form) (m : Mode) → IsCommitting m → (left left' w w' : Option (List ℕ)) (status : Status) → ModeEnds form m left left' w w' mid told' honest' at leaves' status → ModeEnds form m left left' w w' rows told' honest' leaves leaves' status
+    pub mode_before : (form : Form) (m : Mode) → IsCommitting m → (left left' w w' : Option (List ℕ)) (status : Status) → ModeEnds form m (source_told left left') (sink_told w w') (keeper_told mid told' honest' at leaves') status → ModeEnds form m (source_told left left') (sink_told w w') (keeper_told rows told' honest' leaves leaves') status
     mode_before form Replay commits left left' w w' status ends = replay_before form left left' w w' status ends
     mode_before form Resume commits left left' w w' status ends = resume_before form left left' w w' status ends
     mode_before form (Query what) commits left left' w w' status ends = absurd commits

@@ -17,8 +17,9 @@ use Rattle.run_app.specs.{Modes.{ModeEnds, ReplayEnds}, Outcome.{AreEnded, Ends,
 use Rattle.run_app.specs.Runs.{AreAnswered, Named, Wrote, Unkept, Held, Answered, Reported, Lacking, Finished}
 use Rattle.run_app.specs.{Resumes.ResumeEnds, declared.performing.Way.{Way, TheVariants.{Plain, Kept, Past}}}
 use Rattle.run_app.specs.{Commands.{CommandStops, WayStops, way_of}, Stops.{AreRowsBehind, ModeStops, RunStops}}
-use Rattle.run_app.{specs.{Told.IsToldAs, Writes.Adds}, proofs.CutLemmas.lines-append}
-use Rattle.run_app.proofs.{RunLemmas.{answered-append, no_growth}, WholeLemmas.{Reports, reports}}
+use Rattle.run_app.specs.{Told.IsToldAs, Writes.Adds, Seen.{keeper_told, sink_told, source_told}}
+use Rattle.run_app.proofs.{CutLemmas.lines-append, RunLemmas.{answered-append, no_growth}}
+use Rattle.run_app.proofs.WholeLemmas.{Reports, reports}
 use Rattle.store_history.specs.Held.{ShowsLeft, shown}
 
 -- ---- fronts of texts
@@ -179,12 +180,12 @@ told_input None = ([], λ told is. absurd cc)
 told_input (Some input) = (input, λ told is. let same : input ≡ told = cc in sym same)
 
 -- and of one that did not begin
-pub unbegun_stops : (form : Form) (first : Standing) (left written written' : Option (List ℕ)) (rows told : Option (List Pair)) (honest : Type 0) (leaves leaves' : List Pair → Type 0) → Adds written written' (λ text. text ≡ []) → AreLeft rows told honest leaves leaves' → RunStops form first left written written' rows honest leaves leaves'
+pub unbegun_stops : (form : Form) (first : Standing) (left written written' : Option (List ℕ)) (rows told : Option (List Pair)) (honest : Type 0) (leaves leaves' : List Pair → Type 0) → Adds written written' (λ text. text ≡ []) → AreLeft (keeper_told rows told honest leaves leaves') → RunStops form first left written written' rows honest leaves leaves'
 unbegun_stops form first left written written' rows told honest leaves leaves' adds are = λ good some.
     let i = told_input left in
     (i.0, adds.0, i.1, adds.1, λ now may. inl (are.stop good now may, adds.2))
 
-pub replay_stops : (form : Form) (left left' written written' : Option (List ℕ)) (rows rows' : Option (List Pair)) (honest' : Type 0) (leaves leaves' : List Pair → Type 0) (status : Status) → ReplayEnds form left left' written written' rows rows' honest' leaves leaves' status → RunStops form None left written written' rows honest' leaves leaves'
+pub replay_stops : (form : Form) (left left' written written' : Option (List ℕ)) (rows rows' : Option (List Pair)) (honest' : Type 0) (leaves leaves' : List Pair → Type 0) (status : Status) → ReplayEnds form (source_told left left') (sink_told written written') (keeper_told rows rows' honest' leaves leaves') status → RunStops form None left written written' rows honest' leaves leaves'
 replay_stops form left left' written written' rows rows' honest' leaves leaves' status (inl ends) = run_stops form None left left' written written' rows rows' honest' leaves leaves' status ends
 replay_stops form left left' written written' rows rows' honest' leaves leaves' status (inr (why, same, are)) = unbegun_stops form None left written written' rows rows' honest' leaves leaves' same.1 are
 
@@ -212,7 +213,7 @@ module _ (form : Form) (p first : State) (storable : IsStorable p) (storable_too
         written = inl none;
       })
 
-resume_stops : (form : Form) (left left' written written' : Option (List ℕ)) (rows rows' : Option (List Pair)) (honest' : Type 0) (leaves leaves' : List Pair → Type 0) (status : Status) → ResumeEnds form left left' written written' rows rows' honest' leaves leaves' status → (f : Format) (p : State) → IsStorable p → rows ≡ Some (state_rows f p) → RunStops form (Some p) left written written' rows honest' leaves leaves'
+resume_stops : (form : Form) (left left' written written' : Option (List ℕ)) (rows rows' : Option (List Pair)) (honest' : Type 0) (leaves leaves' : List Pair → Type 0) (status : Status) → ResumeEnds form (source_told left left') (sink_told written written') (keeper_told rows rows' honest' leaves leaves') status → (f : Format) (p : State) → IsStorable p → rows ≡ Some (state_rows f p) → RunStops form (Some p) left written written' rows honest' leaves leaves'
 resume_stops form left left' written written' rows rows' honest' leaves leaves' status (inl goes) = λ f p storable told good some.
     let of : AreStateRows (state_rows f p) goes.first = subst (λ (r : Option (List Pair)). IfSome r (λ now. AreStateRows now goes.first)) told (goes.loaded good) in
     run_stops form (Some p) left left' written written' rows rows' honest' leaves leaves' status (goes.ends p storable (state_rows f p, (f, refl), of)) good some
@@ -222,7 +223,7 @@ resume_stops form left left' written written' rows rows' honest' leaves leaves' 
     unmigrated_stops form p none.first storable none.storable (state_rows f p, (f, refl), (First, of)) left written written' rows honest' leaves leaves' same.1 none.stop good some
 
 -- so of each command
-pub mode_stops : (form : Form) (mode : Mode) (left left' written written' : Option (List ℕ)) (rows rows' : Option (List Pair)) (honest' : Type 0) (leaves leaves' : List Pair → Type 0) (status : Status) → ModeEnds form mode left left' written written' rows rows' honest' leaves leaves' status → ModeStops form mode left written written' rows honest' leaves leaves'
+pub mode_stops : (form : Form) (mode : Mode) (left left' written written' : Option (List ℕ)) (rows rows' : Option (List Pair)) (honest' : Type 0) (leaves leaves' : List Pair → Type 0) (status : Status) → ModeEnds form mode (source_told left left') (sink_told written written') (keeper_told rows rows' honest' leaves leaves') status → ModeStops form mode left written written' rows honest' leaves leaves'
 mode_stops form Replay left left' written written' rows rows' honest' leaves leaves' status ends = replay_stops form left left' written written' rows rows' honest' leaves leaves' status ends
 mode_stops form Resume left left' written written' rows rows' honest' leaves leaves' status ends = resume_stops form left left' written written' rows rows' honest' leaves leaves' status ends
 mode_stops form (Query what) left left' written written' rows rows' honest' leaves leaves' status ends = λ good now may. ends.1.0.stop good now may

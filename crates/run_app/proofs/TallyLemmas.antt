@@ -19,7 +19,8 @@ use Rattle.run_app.specs.declared.status.{LimitKind.TheVariants.{Line, Input, Ra
 use Rattle.run_app.specs.Ballots.{AllAreKept, AreUncounted, IsOfBallots, IsUncounted, Kept, cast_from, cast_in}
 use Rattle.run_app.specs.{Lines.lines_of, Outcome.most_bytes, Resumes.status_of_restore}
 use Rattle.run_app.specs.{Tallies.{Counts, TalliesCalmly, TallyEnds, text_of_cast}, Writes.{IsWritten, Writes}}
-use Rattle.run_app.proofs.{BallotLemmas.stopped_front, ModeLemmas.{nothing, nothing_done, rows_left, written_to_end}}
+use Rattle.run_app.{specs.Seen.{keeper_told, sink_told, source_told}, proofs.BallotLemmas.stopped_front}
+use Rattle.run_app.proofs.ModeLemmas.{nothing, nothing_done, rows_left, written_to_end}
 use Rattle.run_app.proofs.{ResumeLemmas.{alike_of, never_unresumed, unresumed, were_loaded}, RunLemmas.no_growth}
 use Rattle.run_app.proofs.StopLemmas.{ended_first}
 use Rattle.run_app.specs.declared.status.LineStop.TheVariants as stop
@@ -70,14 +71,14 @@ uncounted_unwritten s of e = subst IsOfBallots e of
 -- ---- the rows
 
 module _ (form : Form) (left left' w w' : Option (List ℕ)) (rows rows' : Option (List Pair)) (honest' : Type 0) (leaves leaves' : List Pair → Type 0) (same : Makes (λ before. before) rows rows') (stop : honest' → (l : List Pair) → leaves' l → leaves l) where
-  pub tallied : (s : Status) (chain : Chained) → IsChainOf (AreLoaded rows rows' honest') chain → ((p : State) → IsSound p → StandsFor chain.kept p → Counts form p.mine.staked left left' w w' s) → TallyEnds form left left' w w' rows rows' honest' leaves leaves' s
+  pub tallied : (s : Status) (chain : Chained) → IsChainOf (AreLoaded rows rows' honest') chain → ((p : State) → IsSound p → StandsFor chain.kept p → Counts form p.mine.staked left left' w w' s) → TallyEnds form (source_told left left') (sink_told w w') (keeper_told rows rows' honest' leaves leaves') s
   tallied s chain c counts = (
     rows_left rows rows' honest' leaves leaves' same stop,
     inl (record { first = c.first; storable = c.storable; loaded = c.rows_are; counts = λ p q alike. counts p q.sound (c.stands p q alike) }),
   )
 
 pub not_tallied : (form : Form) (f : RestoreFault) (left w : Option (List ℕ)) (rows rows' : Option (List Pair)) (honest' : Type 0) (leaves leaves' : List Pair → Type 0) → IsUnrestored rows rows' honest' f → Makes (λ before. before) rows rows' → (honest' → (l : List Pair) → leaves' l → leaves l)
-    → TallyEnds form left left w w rows rows' honest' leaves leaves' (status_of_restore f)
+    → TallyEnds form (source_told left left) (sink_told w w) (keeper_told rows rows' honest' leaves leaves') (status_of_restore f)
 not_tallied form f left w rows rows' honest' leaves leaves' h same stop = (rows_left rows rows' honest' leaves leaves' same stop, inr (unresumed f rows rows' honest' h, nothing_done left w))
 
 -- ---- runs that come to their end
@@ -109,7 +110,7 @@ module _ (form : Form) (input taken rest : List ℕ) (cast : Cast) (good : cast_
   never_uncounted NotFound h read = absurd h
   never_uncounted (NoPast base last) h read = absurd h
 
-pub untroubled_tally : (form : Form) (left left' w w' : Option (List ℕ)) (rows rows' : Option (List Pair)) (honest' : Type 0) (leaves leaves' : List Pair → Type 0) (faults faults' : ℕ) (s : Status) → TallyEnds form left left' w w' rows rows' honest' leaves leaves' s → TalliesCalmly form left rows honest' faults faults'
+pub untroubled_tally : (form : Form) (left left' w w' : Option (List ℕ)) (rows rows' : Option (List Pair)) (honest' : Type 0) (leaves leaves' : List Pair → Type 0) (faults faults' : ℕ) (s : Status) → TallyEnds form (source_told left left') (sink_told w w') (keeper_told rows rows' honest' leaves leaves') s → TalliesCalmly form left rows honest' faults faults'
     → (s ≡ ReadFault → ⊥) → (s ≡ WriteFault → ⊥) → (s ≡ KeepFault → Rose faults faults') → (s ≡ Done) ⊎ (s ≡ NoMemory)
 untroubled_tally form left left' w w' rows rows' honest' leaves leaves' faults faults' s (kept, inl tally) calm read write keep =
     let b = calm.0 in

@@ -11,8 +11,8 @@ use Rattle.run_app.specs.declared.status.Status.TheVariants.{Done, Usage, BadInp
 use Rattle.run_app.specs.Commands.{WayEnds, WayIsUntroubled, WayStops, WayUnkept, way_in, way_of}
 use Rattle.run_app.specs.{Histories.{IsCommitting, IsUnopened}, Kept.AreLeft}
 use Rattle.run_app.specs.{Modes.{HasFewBlocks, IsUntroubledAt, ModeEnds}, Stops.ModeStops, Writes.Adds}
-use Rattle.run_app.proofs.{CommandLemmas.untroubled_command, PastLemmas.past_ends, SinceLemmas.mode_before}
-use Rattle.run_app.proofs.StopLemmas.{mode_stops, unbegun_stops}
+use Rattle.run_app.{specs.Seen.{keeper_told, sink_told, source_told}, proofs.CommandLemmas.untroubled_command}
+use Rattle.run_app.proofs.{PastLemmas.past_ends, SinceLemmas.mode_before, StopLemmas.{mode_stops, unbegun_stops}}
 
 -- ---- the way of a command
 
@@ -70,20 +70,20 @@ committing_few (Trial seed count) commits = absurd commits
 
 -- ---- over visible rows
 
-shown_left : (rows rows' : Option (List Pair)) (honest' : Type 0) (leaves leaves' : List Pair → Type 0) → AreLeft rows rows' honest' leaves leaves' → AreLeft (shown rows) (shown rows') honest' (ShowsLeft leaves) (ShowsLeft leaves')
+shown_left : (rows rows' : Option (List Pair)) (honest' : Type 0) (leaves leaves' : List Pair → Type 0) → AreLeft (keeper_told rows rows' honest' leaves leaves') → AreLeft (keeper_told (shown rows) (shown rows') honest' (ShowsLeft leaves) (ShowsLeft leaves'))
 shown_left rows rows' honest' leaves leaves' are = record { rows_are = shown_makes (λ ps. ps) (λ ps. ps) rows rows' (λ ps is. refl) are.rows_are; stop = λ h. shown_stop leaves leaves' (are.stop h) }
 
 -- a run over the visible rows that a load left is one over those before it
 pub kept_before : (form : Form) (m : Mode) → IsCommitting m → (left left' w w' : Option (List ℕ)) (rows mid told' : Option (List Pair)) (honest between : Type 0) (leaves at leaves' : List Pair → Type 0) (s : Status)
     → Makes (λ before. before) rows mid → (between → IsSome rows → IsSome mid) → (between → (l : List Pair) → at l → leaves l) → (honest → between)
-    → ModeEnds form m left left' w w' (shown mid) (shown told') honest (ShowsLeft at) (ShowsLeft leaves') s → ModeEnds form m left left' w w' (shown rows) (shown told') honest (ShowsLeft leaves) (ShowsLeft leaves') s
+    → ModeEnds form m (source_told left left') (sink_told w w') (keeper_told (shown mid) (shown told') honest (ShowsLeft at) (ShowsLeft leaves')) s → ModeEnds form m (source_told left left') (sink_told w w') (keeper_told (shown rows) (shown told') honest (ShowsLeft leaves) (ShowsLeft leaves')) s
 kept_before form m commits left left' w w' rows mid told' honest between leaves at leaves' s same still back later ends =
     mode_before (shown rows) (shown mid) honest (shown_makes (λ ps. ps) (λ ps. ps) rows mid (λ ps is. refl) same) (λ h some. shown_some mid (still (later h) (some_shown rows some))) (shown told') (ShowsLeft leaves) (ShowsLeft at) (ShowsLeft leaves')
     (λ h. shown_stop leaves at (back (later h))) form m commits left left' w w' s ends
 
 -- ---- what a stop leaves
 
-unopened_stops : (form : Form) (m : Mode) (left w w' : Option (List ℕ)) (rows rows' : Option (List Pair)) (honest' : Type 0) (leaves leaves' : List Pair → Type 0) → Adds w w' (λ text. text ≡ []) → AreLeft rows rows' honest' leaves leaves' → ModeStops form m left w w' rows honest' leaves leaves'
+unopened_stops : (form : Form) (m : Mode) (left w w' : Option (List ℕ)) (rows rows' : Option (List Pair)) (honest' : Type 0) (leaves leaves' : List Pair → Type 0) → Adds w w' (λ text. text ≡ []) → AreLeft (keeper_told rows rows' honest' leaves leaves') → ModeStops form m left w w' rows honest' leaves leaves'
 unopened_stops form Replay left w w' rows rows' honest' leaves leaves' none are = unbegun_stops form None left w w' rows rows' honest' leaves leaves' none are
 unopened_stops form Resume left w w' rows rows' honest' leaves leaves' none are = λ f p storable told. unbegun_stops form (Some p) left w w' rows rows' honest' leaves leaves' none are
 unopened_stops form (Query what) left w w' rows rows' honest' leaves leaves' none are = λ good now may. are.stop good now may
@@ -92,7 +92,7 @@ unopened_stops form Check left w w' rows rows' honest' leaves leaves' none are =
 unopened_stops form (Gen seed count) left w w' rows rows' honest' leaves leaves' none are = λ good now may. are.stop good now may
 unopened_stops form (Trial seed count) left w w' rows rows' honest' leaves leaves' none are = λ good now may. are.stop good now may
 
-pub way_stops : (form : Form) (way : Way) (left left' w w' : Option (List ℕ)) (rows rows' : Option (List Pair)) (honest' : Type 0) (leaves leaves' : List Pair → Type 0) (s : Status) → WayEnds form way left left' w w' rows rows' honest' leaves leaves' s → WayStops form way left w w' rows honest' leaves leaves'
+pub way_stops : (form : Form) (way : Way) (left left' w w' : Option (List ℕ)) (rows rows' : Option (List Pair)) (honest' : Type 0) (leaves leaves' : List Pair → Type 0) (s : Status) → WayEnds form way (source_told left left') (sink_told w w') (keeper_told rows rows' honest' leaves leaves') s → WayStops form way left w w' rows honest' leaves leaves'
 way_stops form (Plain m) left left' w w' rows rows' honest' leaves leaves' s ends = mode_stops form m left left' w w' rows rows' honest' leaves leaves' s ends
 way_stops form (Kept m) left left' w w' rows rows' honest' leaves leaves' s (inl k) = mode_stops form m left left' w w' (shown rows) (shown rows') honest' (ShowsLeft leaves) (ShowsLeft leaves') s k.ends
 way_stops form (Kept m) left left' w w' rows rows' honest' leaves leaves' s (inr (why, none, are)) =
@@ -142,7 +142,7 @@ unopened_ends NotFound keeps rows rows' honest' faults faults' h fits same good 
 unopened_ends (NoPast base last) keeps rows rows' honest' faults faults' h fits same good unkept keep = absurd h
 
 pub untroubled_way : (form : Form) (way : Way) → CommitsIfKept way → (left left' w w' : Option (List ℕ)) (keeps : Bool) (rows rows' : Option (List Pair)) (honest' : Type 0) (leaves leaves' : List Pair → Type 0) (faults faults' : ℕ) (s : Status)
-    → WayEnds form way left left' w w' rows rows' honest' leaves leaves' s → WayIsUntroubled form way left keeps rows honest' faults faults' → (s ≡ Usage → ⊥) → (s ≡ ReadFault → ⊥) → (s ≡ WriteFault → ⊥) → (s ≡ KeepFault → Rose faults faults') → (keeps ≡ false → WayUnkept way left left' w w' s)
+    → WayEnds form way (source_told left left') (sink_told w w') (keeper_told rows rows' honest' leaves leaves') s → WayIsUntroubled form way left keeps rows honest' faults faults' → (s ≡ Usage → ⊥) → (s ≡ ReadFault → ⊥) → (s ≡ WriteFault → ⊥) → (s ≡ KeepFault → Rose faults faults') → (keeps ≡ false → WayUnkept way (source_told left left') (sink_told w w') s)
     → (s ≡ Done) ⊎ (s ≡ NoMemory)
 untroubled_way form (Plain m) commits left left' w w' keeps rows rows' honest' leaves leaves' faults faults' s ends calm busy read write keep unkept =
     untroubled_command form m left left' w w' keeps rows rows' honest' leaves leaves' faults faults' s ends calm busy read write keep unkept

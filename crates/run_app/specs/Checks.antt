@@ -18,6 +18,7 @@ use Rattle.run_app.specs.Ending.{status_of}
 use Rattle.run_app.specs.Lines.{whole_from, rest_from, lines_of}
 use Rattle.run_app.specs.Machine.{longest, not_read}
 use Rattle.run_app.specs.Outcome.{AreEnded, most_bytes}
+use Rattle.run_app.specs.Seen.{SinkTold, SourceTold}
 use Rattle.run_app.specs.Told.{TakesFrom}
 use Rattle.run_generated.specs.Writing.{Grows}
 
@@ -168,10 +169,10 @@ ChecksAll form left left' written written' =
 
 -- There are bytes that were taken, a rest that is left, and a text that was written, as the source and
 -- the sink tell them where they do, by which a run ended so.
-abbrev pub CheckEnds : Form → Option (List ℕ) → Option (List ℕ) → Option (List ℕ) → Option (List ℕ) → Status → Type 0
-CheckEnds form left left' written written' status =
+abbrev pub CheckEnds : Form → SourceTold → SinkTold → Status → Type 0
+CheckEnds form source sink status =
     (taken : List ℕ) × (rest : List ℕ) × (text : List ℕ)
-    × TakesFrom left left' taken rest × Grows written written' text × ChecksSo form status taken rest text
+    × TakesFrom source.left source.left' taken rest × Grows sink.written sink.written' text × ChecksSo form status taken rest text
 
 -- a source that tells, and an input within its limit, of which each line is answered
 pub record ChecksCalmly (form : Form) (left : Option (List ℕ)) : Type 0 where

@@ -15,6 +15,7 @@ use Rattle.run_app.specs.declared.status.Status.TheVariants.{BadStore}
 use Rattle.run_app.specs.Histories.{FitsPast, KeepEnds, PastEnds}
 use Rattle.run_app.specs.Kept.{AreUntouched}
 use Rattle.run_app.specs.Modes.{IsUntroubledAt, ModeEnds}
+use Rattle.run_app.specs.Seen.{KeeperTold, SinkTold, SourceTold}
 use Rattle.run_app.specs.Stops.{LeavesAsBefore, ModeStops}
 use Rattle.run_app.specs.Unkept.{FindsNoRows, ModeUnkept}
 use Rattle.run_app.specs.Writes.{Leaves}
@@ -44,15 +45,15 @@ way_of c = way_in c.keep c.past c.mode
 
 -- ---- what was taken, written and kept
 
-abbrev pub WayEnds : Form → Way → Option (List ℕ) → Option (List ℕ) → Option (List ℕ) → Option (List ℕ) → Option (List Pair) → Option (List Pair) → Type 0 → (List Pair → Type 0) → (List Pair → Type 0) → Status → Type 0
-WayEnds form (Plain m) left left' written written' rows rows' honest' leaves leaves' status = ModeEnds form m left left' written written' rows rows' honest' leaves leaves' status
-WayEnds form (Kept m) left left' written written' rows rows' honest' leaves leaves' status = KeepEnds form m left left' written written' rows rows' honest' leaves leaves' status
-WayEnds form (Past height what) left left' written written' rows rows' honest' leaves leaves' status = (left' ≡ left) × PastEnds form height what written written' rows rows' honest' leaves leaves' status
+abbrev pub WayEnds : Form → Way → SourceTold → SinkTold → KeeperTold → Status → Type 0
+WayEnds form (Plain m) source sink keeper status = ModeEnds form m source sink keeper status
+WayEnds form (Kept m) source sink keeper status = KeepEnds form m source sink keeper status
+WayEnds form (Past height what) source sink keeper status = (source.left' ≡ source.left) × PastEnds form height what sink keeper status
 
 -- the same of what words ask for: of no command, and of one with addresses in its form
-abbrev pub CommandEnds : Option Command → Option (List ℕ) → Option (List ℕ) → Option (List ℕ) → Option (List ℕ) → Option (List Pair) → Option (List Pair) → Type 0 → (List Pair → Type 0) → (List Pair → Type 0) → Status → Type 0
-CommandEnds None left left' written written' rows rows' honest' leaves leaves' status = Leaves left left' written written' (λ text. text ≡ []) × AreUntouched rows rows' leaves leaves'
-CommandEnds (Some c) left left' written written' rows rows' honest' leaves leaves' status = WayEnds c.form (way_of c) left left' written written' rows rows' honest' leaves leaves' status
+abbrev pub CommandEnds : Option Command → SourceTold → SinkTold → KeeperTold → Status → Type 0
+CommandEnds None source sink keeper status = Leaves source sink (λ text. text ≡ []) × AreUntouched keeper.rows keeper.rows' keeper.leaves keeper.leaves'
+CommandEnds (Some c) source sink keeper status = WayEnds c.form (way_of c) source sink keeper status
 
 -- ---- what a stop leaves
 
@@ -70,15 +71,15 @@ CommandStops (Some c) left written written' rows honest' leaves leaves' = WaySto
 -- ---- over a keeper that keeps nothing
 
 -- There is no history that is not of its form, and no past rows.
-abbrev pub WayUnkept : Way → Option (List ℕ) → Option (List ℕ) → Option (List ℕ) → Option (List ℕ) → Status → Type 0
-WayUnkept (Plain m) left left' written written' status = ModeUnkept m left left' written written' status
-WayUnkept (Kept m) left left' written written' status = ModeUnkept m left left' written written' status × (status ≡ BadStore → ⊥)
-WayUnkept (Past height what) left left' written written' status = FindsNoRows left left' written written' status
+abbrev pub WayUnkept : Way → SourceTold → SinkTold → Status → Type 0
+WayUnkept (Plain m) source sink status = ModeUnkept m source sink status
+WayUnkept (Kept m) source sink status = ModeUnkept m source sink status × (status ≡ BadStore → ⊥)
+WayUnkept (Past height what) source sink status = FindsNoRows source sink status
 
 -- the same of what words ask for
-abbrev pub CommandUnkept : Option Command → Option (List ℕ) → Option (List ℕ) → Option (List ℕ) → Option (List ℕ) → Status → Type 0
-CommandUnkept None left left' written written' status = Unit {0}
-CommandUnkept (Some c) left left' written written' status = WayUnkept (way_of c) left left' written written' status
+abbrev pub CommandUnkept : Option Command → SourceTold → SinkTold → Status → Type 0
+CommandUnkept None source sink status = Unit {0}
+CommandUnkept (Some c) source sink status = WayUnkept (way_of c) source sink status
 
 -- ---- runs that nothing keeps from their end
 

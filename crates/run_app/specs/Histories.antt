@@ -14,13 +14,14 @@ use Rattle.store_history.specs.declared.loading.OpenFault.TheVariants as unopene
 use Rattle.store_history.specs.declared.going_back.PastFault.{PastFault}
 use Rattle.store_history.specs.declared.going_back.PastFault.TheVariants as past
 use Rattle.store_history.specs.Answers.{IsOutside, IsWithin}
-use Rattle.store_history.specs.Held.{HaveBecome, ShowsLeft, shown}
+use Rattle.store_history.specs.Held.{HaveBecome}
 use Rattle.store_history.specs.History.{ArePast, IsHistory, last_of}
 use Rattle.store_resuming.specs.Restored.{AreLoaded, AreOfNone, AreStateRows, HaveSameRows, IsStorable}
 use Rattle.run_app.specs.declared.status.Status.{Status}
 use Rattle.run_app.specs.declared.status.Status.TheVariants.{BadStore, KeepFault, NoMemory, NoPast, WrongStore}
 use Rattle.run_app.specs.Kept.{AreLeft}
 use Rattle.run_app.specs.Modes.{ModeEnds}
+use Rattle.run_app.specs.Seen.{KeeperTold, SinkTold, SourceTold, visible}
 use Rattle.run_app.specs.Resumes.{Answers}
 use Rattle.run_app.specs.Writes.{Adds, Leaves}
 
@@ -47,16 +48,16 @@ IsUnopened _ rows rows' honest' = ⊥
 
 -- A run that keeps a history ends, of the visible rows, as one that keeps none. The rows are what commits made of those before, and a
 -- history in them is of its form.
-pub record Keeps (form : Form) (m : Mode) (left left' written written' : Option (List ℕ)) (rows rows' : Option (List Pair)) (honest' : Type 0) (leaves leaves' : List Pair → Type 0) (status : Status) : Type 0 where
-  pub ends : ModeEnds form m left left' written written' (shown rows) (shown rows') honest' (ShowsLeft leaves) (ShowsLeft leaves') status
-  pub became : HaveBecome rows rows'
-  pub history : IfSome rows' IsHistory
+pub record Keeps (form : Form) (m : Mode) (source : SourceTold) (sink : SinkTold) (keeper : KeeperTold) (status : Status) : Type 0 where
+  pub ends : ModeEnds form m source sink (visible keeper) status
+  pub became : HaveBecome keeper.rows keeper.rows'
+  pub history : IfSome keeper.rows' IsHistory
 
 -- Or it does not begin, takes and writes nothing, and leaves all rows.
-abbrev pub KeepEnds : Form → Mode → Option (List ℕ) → Option (List ℕ) → Option (List ℕ) → Option (List ℕ) → Option (List Pair) → Option (List Pair) → Type 0 → (List Pair → Type 0) → (List Pair → Type 0) → Status → Type 0
-KeepEnds form m left left' written written' rows rows' honest' leaves leaves' status =
-    Keeps form m left left' written written' rows rows' honest' leaves leaves' status
-    ⊎ (IsUnopened status rows rows' honest' × Leaves left left' written written' (λ text. text ≡ []) × AreLeft rows rows' honest' leaves leaves')
+abbrev pub KeepEnds : Form → Mode → SourceTold → SinkTold → KeeperTold → Status → Type 0
+KeepEnds form m source sink keeper status =
+    Keeps form m source sink keeper status
+    ⊎ (IsUnopened status keeper.rows keeper.rows' keeper.honest' × Leaves source sink (λ text. text ≡ []) × AreLeft keeper)
 
 -- ---- questions of a past height
 
@@ -113,10 +114,11 @@ IsUnasked height (NoPast base last) rows rows' honest' = AreLoaded rows rows' ho
 IsUnasked height _ rows rows' honest' = ⊥
 
 -- A question of a past height leaves all rows. It is answered from the past rows; or it is not, and nothing is written.
-abbrev pub PastEnds : Form → ℕ → Query → Option (List ℕ) → Option (List ℕ) → Option (List Pair) → Option (List Pair) → Type 0 → (List Pair → Type 0) → (List Pair → Type 0) → Status → Type 0
-PastEnds form height what written written' rows rows' honest' leaves leaves' status =
-    AreLeft rows rows' honest' leaves leaves'
-    × (AskedAt form height what (AreLoaded rows rows' honest') written written' status ⊎ (IsUnasked height status rows rows' honest' × Adds written written' (λ text. text ≡ [])))
+abbrev pub PastEnds : Form → ℕ → Query → SinkTold → KeeperTold → Status → Type 0
+PastEnds form height what sink keeper status =
+    AreLeft keeper
+    × (AskedAt form height what (AreLoaded keeper.rows keeper.rows' keeper.honest') sink.written sink.written' status
+    ⊎ (IsUnasked height status keeper.rows keeper.rows' keeper.honest' × Adds sink.written sink.written' (λ text. text ≡ [])))
 
 -- a keeper whose rows are at a height those of a state that has an answer, that is honest to the end, and of which no call fails
 pub record FitsPast (form : Form) (height : ℕ) (what : Query) (rows : Option (List Pair)) (honest' : Type 0) (faults faults' : ℕ) : Type 0 where

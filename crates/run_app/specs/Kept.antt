@@ -9,6 +9,7 @@ use Rattle.store_items.specs.Stored.{AreStored, rows_as}
 use Rattle.store_rows.specs.declared.format.Format.{Format}
 use Rattle.run_app.specs.declared.status.Status.{Status}
 use Rattle.run_app.specs.declared.status.Status.TheVariants.{KeepFault, NoMemory, WrongStore}
+use Rattle.run_app.specs.Seen.{KeeperTold}
 use Rattle.run_app.specs.Machine.{IsSettled, Standing, StandsAt}
 
 -- how a run began: on the rows of what it was to go on from, and these rows, where they were told
@@ -53,9 +54,9 @@ on_none rows = record { first = None; rows = rows }
 -- ---- runs that leave the rows as they were
 
 -- a call of a keeper left the rows, and what a stop may leave
-pub record AreLeft (rows rows' : Option (List Pair)) (honest' : Type 0) (leaves leaves' : List Pair → Type 0) : Type 0 where
-  pub rows_are : Makes (λ before. before) rows rows'
-  pub stop : honest' → (left : List Pair) → leaves' left → leaves left
+pub record AreLeft (keeper : KeeperTold) : Type 0 where
+  pub rows_are : Makes (λ before. before) keeper.rows keeper.rows'
+  pub stop : keeper.honest' → (left : List Pair) → keeper.leaves' left → keeper.leaves left
 
 -- no call was made
 pub record AreUntouched (rows rows' : Option (List Pair)) (leaves leaves' : List Pair → Type 0) : Type 0 where

@@ -15,6 +15,7 @@ pub mod Parts
 pub mod Rejoined
 pub mod Resumes
 pub mod Runs
+pub mod Seen
 pub mod Sizes
 pub mod Stops
 pub mod Taking

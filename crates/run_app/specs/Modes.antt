@@ -15,6 +15,7 @@ use Rattle.run_app.specs.Checks.{CheckEnds, ChecksCalmly}
 use Rattle.run_app.specs.Kept.{AreLeft, AreSome, AreUntouched, IsUnbegun, LeftIn, on_none}
 use Rattle.run_app.specs.Machine.{not_applied}
 use Rattle.run_app.specs.Outcome.{IsUntroubled, RunEnds}
+use Rattle.run_app.specs.Seen.{KeeperTold, SinkTold, SourceTold}
 use Rattle.run_app.specs.Ending.{status_of}
 use Rattle.run_app.specs.Resumes.{AsksCalmly, QueryEnds, ResumeEnds, ResumesCalmly}
 use Rattle.run_app.specs.Tallies.{TalliesCalmly, TallyEnds}
@@ -45,24 +46,24 @@ HasFewBlocks (Gen seed count) = count ≤ 100000
 HasFewBlocks (Trial seed count) = count ≤ 100000
 
 -- A replay begins on no rows, and ends as its input says; or it does not begin, takes and writes nothing, and leaves all rows.
-abbrev pub ReplayEnds : Form → Option (List ℕ) → Option (List ℕ) → Option (List ℕ) → Option (List ℕ) → Option (List Pair) → Option (List Pair) → Type 0 → (List Pair → Type 0) → (List Pair → Type 0) → Status → Type 0
-ReplayEnds form left left' written written' rows rows' honest' leaves leaves' status =
-    RunEnds form None (LeftIn (on_none rows) rows' honest' leaves') left left' written written' status
-    ⊎ (IsUnbegun status (AreSome rows rows' honest') × Leaves left left' written written' (λ text. text ≡ []) × AreLeft rows rows' honest' leaves leaves')
+abbrev pub ReplayEnds : Form → SourceTold → SinkTold → KeeperTold → Status → Type 0
+ReplayEnds form source sink keeper status =
+    RunEnds form None (LeftIn (on_none keeper.rows) keeper.rows' keeper.honest' keeper.leaves') source.left source.left' sink.written sink.written' status
+    ⊎ (IsUnbegun status (AreSome keeper.rows keeper.rows' keeper.honest') × Leaves source sink (λ text. text ≡ []) × AreLeft keeper)
 
 -- What was taken, written and kept at the end of a run: of a replay, of a run that goes on, of a question, of a
 -- tally, of statements that are checked, of the generated input, of a trial.
-abbrev pub ModeEnds : Form → Mode → Option (List ℕ) → Option (List ℕ) → Option (List ℕ) → Option (List ℕ) → Option (List Pair) → Option (List Pair) → Type 0 → (List Pair → Type 0) → (List Pair → Type 0) → Status → Type 0
-ModeEnds form Replay left left' written written' rows rows' honest' leaves leaves' status = ReplayEnds form left left' written written' rows rows' honest' leaves leaves' status
-ModeEnds form Resume left left' written written' rows rows' honest' leaves leaves' status = ResumeEnds form left left' written written' rows rows' honest' leaves leaves' status
-ModeEnds form (Query what) left left' written written' rows rows' honest' leaves leaves' status = (left' ≡ left) × QueryEnds form what written written' rows rows' honest' leaves leaves' status
-ModeEnds form Tally left left' written written' rows rows' honest' leaves leaves' status = TallyEnds form left left' written written' rows rows' honest' leaves leaves' status
-ModeEnds form Check left left' written written' rows rows' honest' leaves leaves' status =
-    CheckEnds form left left' written written' status × AreUntouched rows rows' leaves leaves'
-ModeEnds form (Gen seed count) left left' written written' rows rows' honest' leaves leaves' status =
-    Leaves left left' written written' (IsWritten (generated_text form seed count) status) × AreUntouched rows rows' leaves leaves'
-ModeEnds form (Trial seed count) left left' written written' rows rows' honest' leaves leaves' status =
-    Leaves left left' written written' (IsTried (trial_of seed count) status) × AreUntouched rows rows' leaves leaves'
+abbrev pub ModeEnds : Form → Mode → SourceTold → SinkTold → KeeperTold → Status → Type 0
+ModeEnds form Replay source sink keeper status = ReplayEnds form source sink keeper status
+ModeEnds form Resume source sink keeper status = ResumeEnds form source sink keeper status
+ModeEnds form (Query what) source sink keeper status = (source.left' ≡ source.left) × QueryEnds form what sink keeper status
+ModeEnds form Tally source sink keeper status = TallyEnds form source sink keeper status
+ModeEnds form Check source sink keeper status =
+    CheckEnds form source sink status × AreUntouched keeper.rows keeper.rows' keeper.leaves keeper.leaves'
+ModeEnds form (Gen seed count) source sink keeper status =
+    Leaves source sink (IsWritten (generated_text form seed count) status) × AreUntouched keeper.rows keeper.rows' keeper.leaves keeper.leaves'
+ModeEnds form (Trial seed count) source sink keeper status =
+    Leaves source sink (IsTried (trial_of seed count) status) × AreUntouched keeper.rows keeper.rows' keeper.leaves keeper.leaves'
 
 -- a keeper that keeps nothing, or one without rows, that is honest to the end, and of which no call fails
 pub record FitsReplay (keeps : Bool) (rows : Option (List Pair)) (honest' : Type 0) (faults faults' : ℕ) : Type 0 where

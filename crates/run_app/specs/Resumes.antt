@@ -15,6 +15,7 @@ use Rattle.run_app.specs.declared.status.Status.{Status}
 use Rattle.run_app.specs.declared.status.Status.TheVariants.{KeepFault, NoMemory, BadStore, WrongStore, NotFound}
 use Rattle.run_app.specs.Kept.{AreLeft, Began, LeftIn}
 use Rattle.run_app.specs.Outcome.{IsUntroubled, RunEnds}
+use Rattle.run_app.specs.Seen.{KeeperTold, SinkTold, SourceTold}
 use Rattle.run_app.specs.Writes.{Adds, IsWritten, Leaves}
 
 -- ---- runs of which no chain comes
@@ -65,11 +66,11 @@ pub record IsUnmigrated (status : Status) (rows rows' : Option (List Pair)) (hon
 -- A resume goes on from the rows of its keeper; or no chain comes of them, it takes and writes
 -- nothing, and leaves all rows; or these were not brought to the format that is written, and it
 -- takes and writes nothing.
-abbrev pub ResumeEnds : Form → Option (List ℕ) → Option (List ℕ) → Option (List ℕ) → Option (List ℕ) → Option (List Pair) → Option (List Pair) → Type 0 → (List Pair → Type 0) → (List Pair → Type 0) → Status → Type 0
-ResumeEnds form left left' written written' rows rows' honest' leaves leaves' status =
-    GoesOn form left left' written written' rows rows' honest' leaves' status
-    ⊎ (IsUnresumed status rows rows' honest' × Leaves left left' written written' (λ text. text ≡ []) × AreLeft rows rows' honest' leaves leaves')
-    ⊎ (IsUnmigrated status rows rows' honest' leaves leaves' × Leaves left left' written written' (λ text. text ≡ []))
+abbrev pub ResumeEnds : Form → SourceTold → SinkTold → KeeperTold → Status → Type 0
+ResumeEnds form source sink keeper status =
+    GoesOn form source.left source.left' sink.written sink.written' keeper.rows keeper.rows' keeper.honest' keeper.leaves' status
+    ⊎ (IsUnresumed status keeper.rows keeper.rows' keeper.honest' × Leaves source sink (λ text. text ≡ []) × AreLeft keeper)
+    ⊎ (IsUnmigrated status keeper.rows keeper.rows' keeper.honest' keeper.leaves keeper.leaves' × Leaves source sink (λ text. text ≡ []))
 
 -- ---- query
 
@@ -91,10 +92,11 @@ pub record Asked (form : Form) (what : Query) (written written' : Option (List �
   pub answered : (p : State) → IsStorable p → HaveSameRows p first → Answers (answered_by form (report_of p) what) written written' status
 
 -- A query leaves all rows. It answers from them; or no chain comes of them, and it writes nothing.
-abbrev pub QueryEnds : Form → Query → Option (List ℕ) → Option (List ℕ) → Option (List Pair) → Option (List Pair) → Type 0 → (List Pair → Type 0) → (List Pair → Type 0) → Status → Type 0
-QueryEnds form what written written' rows rows' honest' leaves leaves' status =
-    AreLeft rows rows' honest' leaves leaves'
-    × (Asked form what written written' rows rows' honest' status ⊎ (IsUnresumed status rows rows' honest' × Adds written written' (λ text. text ≡ [])))
+abbrev pub QueryEnds : Form → Query → SinkTold → KeeperTold → Status → Type 0
+QueryEnds form what sink keeper status =
+    AreLeft keeper
+    × (Asked form what sink.written sink.written' keeper.rows keeper.rows' keeper.honest' status
+    ⊎ (IsUnresumed status keeper.rows keeper.rows' keeper.honest' × Adds sink.written sink.written' (λ text. text ≡ [])))
 
 -- ---- runs that nothing keeps from their end
 

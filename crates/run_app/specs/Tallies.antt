@@ -12,6 +12,7 @@ use Rattle.run_app.specs.declared.status.Status.{Status}
 use Rattle.run_app.specs.Ballots.{IsUncounted, cast_in}
 use Rattle.run_app.specs.Kept.{AreLeft}
 use Rattle.run_app.specs.Outcome.{most_bytes}
+use Rattle.run_app.specs.Seen.{KeeperTold, SinkTold, SourceTold}
 use Rattle.run_app.specs.Resumes.{FitsState, IsUnresumed}
 use Rattle.run_app.specs.Told.{TakesFrom}
 use Rattle.run_app.specs.Writes.{IsWritten, Leaves}
@@ -54,11 +55,11 @@ pub record Tallied (form : Form) (left left' written written' : Option (List ℕ
 
 -- A tally leaves all rows. It counts over them; or no chain comes of them, and it takes and writes
 -- nothing.
-abbrev pub TallyEnds : Form → Option (List ℕ) → Option (List ℕ) → Option (List ℕ) → Option (List ℕ) → Option (List Pair) → Option (List Pair) → Type 0 → (List Pair → Type 0) → (List Pair → Type 0) → Status → Type 0
-TallyEnds form left left' written written' rows rows' honest' leaves leaves' status =
-    AreLeft rows rows' honest' leaves leaves'
-    × (Tallied form left left' written written' rows rows' honest' status
-    ⊎ (IsUnresumed status rows rows' honest' × Leaves left left' written written' (λ text. text ≡ [])))
+abbrev pub TallyEnds : Form → SourceTold → SinkTold → KeeperTold → Status → Type 0
+TallyEnds form source sink keeper status =
+    AreLeft keeper
+    × (Tallied form source.left source.left' sink.written sink.written' keeper.rows keeper.rows' keeper.honest' status
+    ⊎ (IsUnresumed status keeper.rows keeper.rows' keeper.honest' × Leaves source sink (λ text. text ≡ [])))
 
 -- a source that tells, and an input within its limit, of which each line is a ballot
 pub record AreBallots (form : Form) (left : Option (List ℕ)) : Type 0 where

@@ -7,6 +7,7 @@ ghost use Rattle.run_app.specs.Checks.{CheckEnds, ChecksAll, IsChecked, IsUnansw
 ghost use Rattle.run_app.specs.Counts.{Moved, is_keep_fault, is_read_fault, is_write_fault};
 ghost use Rattle.run_app.specs.Machine.{longest};
 ghost use Rattle.run_app.specs.Taking.{MayEnd, UnlessUnwritten};
+ghost use Rattle.run_app.specs.Seen.{by_sink, by_source};
 
 use crate::line::not_read;
 use crate::status::{InputFault, LimitKind, Status, status_of};
@@ -101,8 +102,8 @@ fn answer_lines<S: Source, K: Sink>(
 ) -> Result<(), Status>
     ensures all { OnOk result (ChecksAll form (S.left source.old) (S.left source.new)
         (K.written sink.old) (K.written sink.new)) }
-    ensures part { IfErr result (λ status. CheckEnds form (S.left source.old) (S.left source.new)
-        (K.written sink.old) (K.written sink.new) status) }
+    ensures part { IfErr result (λ status. CheckEnds form (by_source S.left source.old source.new)
+        (by_sink K.written sink.old sink.new) status) }
     ensures may { IfErr result MayEnd }
     ensures read_cause { IsErrOf result Status.ReadFault
         → Rose (S.faults source.old) (S.faults source.new) }
@@ -131,8 +132,8 @@ pub(crate) fn check_all<S: Source, K: Sink>(
     source: &mut S,
     sink: &mut K,
 ) -> Status
-    ensures ends { CheckEnds form (S.left source.old) (S.left source.new)
-        (K.written sink.old) (K.written sink.new) result }
+    ensures ends { CheckEnds form (by_source S.left source.old source.new)
+        (by_sink K.written sink.old sink.new) result }
     ensures busy { result ≡ Status.Usage → ⊥ }
     ensures reads { Moved (is_read_fault result) (S.faults source.old) (S.faults source.new) }
     ensures writes { Moved (is_write_fault result) (K.faults sink.old) (K.faults sink.new)

@@ -6,7 +6,8 @@ ghost use Rattle.run_app.specs.Counts.{Moved, is_keep_fault, is_read_fault, is_w
 ghost use Rattle.run_app.specs.Histories.{IsCommitting, KeepEnds, status_of_open};
 ghost use Rattle.run_app.specs.Modes.{HasFewBlocks, ModeEnds};
 ghost use Rattle.run_app.specs.Unkept.{ModeUnkept};
-ghost use Rattle.store_history.specs.Held.{shown, HaveBecome, Knows, ShowsLeft, TakesDistinct};
+ghost use Rattle.run_app.specs.Seen.{by_keeper, by_sink, by_source, visible};
+ghost use Rattle.store_history.specs.Held.{HaveBecome, Knows, TakesDistinct};
 ghost use Rattle.store_history.specs.History.{IsHistory};
 
 use crate::running::carry_out;
@@ -49,15 +50,14 @@ fn carry_out_kept<'a, L: Loan, S: Source, K: Sink, D: Keeper>(
     requires history { IfSome (D.rows keeper.old) IsHistory }
     requires knows { Knows (D.rows keeper.old) history.base history.visible }
     ensures same_reference { result.1.ghost_name ≡ keeper.entry.ghost_name }
-    ensures ends { ModeEnds form mode (S.left source.old) (S.left source.new)
-        (K.written sink.old) (K.written sink.new)
-        (shown (D.rows keeper.old)) (shown (D.rows result.1.now)) (D.is_honest result.1.now)
-        (ShowsLeft (D.may_leave keeper.old)) (ShowsLeft (D.may_leave result.1.now)) result.0 }
+    ensures ends { ModeEnds form mode (by_source S.left source.old source.new)
+        (by_sink K.written sink.old sink.new)
+        (visible (by_keeper D.rows D.is_honest D.may_leave keeper.old result.1.now)) result.0 }
     ensures became { HaveBecome (D.rows keeper.old) (D.rows result.1.now) }
     ensures history { IfSome (D.rows result.1.now) IsHistory }
     ensures busy { result.0 ≡ Status.Usage → ⊥ }
-    ensures unkept { D.keeps keeper.old ≡ false → ModeUnkept mode (S.left source.old)
-        (S.left source.new) (K.written sink.old) (K.written sink.new) result.0 }
+    ensures unkept { D.keeps keeper.old ≡ false → ModeUnkept mode
+        (by_source S.left source.old source.new) (by_sink K.written sink.old sink.new) result.0 }
     ensures reads { Moved (is_read_fault result.0) (S.faults source.old) (S.faults source.new) }
     ensures writes { Moved (is_write_fault result.0) (K.faults sink.old) (K.faults sink.new)
         × (result.0 ≡ Status.Done → K.clean sink.new ≡ true) }
@@ -80,12 +80,12 @@ pub(crate) fn keep<S: Source, K: Sink, D: Keeper>(
 ) -> Status
     requires commits { IsCommitting mode }
     requires takes { TakesDistinct (D.takes keeper.old) }
-    ensures ends { KeepEnds form mode (S.left source.old) (S.left source.new)
-        (K.written sink.old) (K.written sink.new) (D.rows keeper.old) (D.rows keeper.new)
-        (D.is_honest keeper.new) (D.may_leave keeper.old) (D.may_leave keeper.new) result }
+    ensures ends { KeepEnds form mode (by_source S.left source.old source.new)
+        (by_sink K.written sink.old sink.new)
+        (by_keeper D.rows D.is_honest D.may_leave keeper.old keeper.new) result }
     ensures busy { result ≡ Status.Usage → ⊥ }
-    ensures unkept { D.keeps keeper.old ≡ false → ModeUnkept mode (S.left source.old)
-        (S.left source.new) (K.written sink.old) (K.written sink.new) result
+    ensures unkept { D.keeps keeper.old ≡ false → ModeUnkept mode
+        (by_source S.left source.old source.new) (by_sink K.written sink.old sink.new) result
         × (result ≡ Status.BadStore → ⊥) }
     ensures reads { Moved (is_read_fault result) (S.faults source.old) (S.faults source.new) }
     ensures writes { Moved (is_write_fault result) (K.faults sink.old) (K.faults sink.new)

@@ -4,6 +4,7 @@ ghost use Rattle.std.specs.Prelude.{◌≡◌, false, true};
 ghost use Rattle.run_app.specs.Commands.{WayEnds, WayUnkept, kept_way, past_way, way_of};
 ghost use Rattle.run_app.specs.Counts.{Moved, is_keep_fault, is_read_fault, is_write_fault};
 ghost use Rattle.run_app.specs.Modes.{HasFewBlocks};
+ghost use Rattle.run_app.specs.Seen.{by_keeper, by_sink, by_source};
 ghost use Rattle.store_history.specs.Held.{TakesDistinct};
 
 use crate::keeping::keep;
@@ -72,12 +73,12 @@ pub(crate) fn perform<S: Source, K: Sink, D: Keeper>(
 ) -> Status
     requires few { HasFewBlocks command.mode }
     requires takes { TakesDistinct (D.takes keeper.old) }
-    ensures ends { WayEnds command.form (way_of command) (S.left source.old) (S.left source.new)
-        (K.written sink.old) (K.written sink.new) (D.rows keeper.old) (D.rows keeper.new)
-        (D.is_honest keeper.new) (D.may_leave keeper.old) (D.may_leave keeper.new) result }
+    ensures ends { WayEnds command.form (way_of command) (by_source S.left source.old source.new)
+        (by_sink K.written sink.old sink.new)
+        (by_keeper D.rows D.is_honest D.may_leave keeper.old keeper.new) result }
     ensures busy { result ≡ Status.Usage → ⊥ }
-    ensures unkept { D.keeps keeper.old ≡ false → WayUnkept (way_of command) (S.left source.old)
-        (S.left source.new) (K.written sink.old) (K.written sink.new) result }
+    ensures unkept { D.keeps keeper.old ≡ false → WayUnkept (way_of command)
+        (by_source S.left source.old source.new) (by_sink K.written sink.old sink.new) result }
     ensures reads { Moved (is_read_fault result) (S.faults source.old) (S.faults source.new) }
     ensures writes { Moved (is_write_fault result) (K.faults sink.old) (K.faults sink.new)
         × (result ≡ Status.Done → K.clean sink.new ≡ true) }

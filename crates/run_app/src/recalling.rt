@@ -6,6 +6,7 @@ ghost use Rattle.run_app.specs.Counts.{Moved, is_keep_fault, is_read_fault, is_w
 ghost use Rattle.run_app.specs.Histories.{PastAnswers, PastEnds, status_of_past};
 ghost use Rattle.run_app.specs.Unkept.{IsOfNoRows};
 ghost use Rattle.run_app.specs.Writes.{Adds};
+ghost use Rattle.run_app.specs.Seen.{by_keeper, by_sink};
 ghost use Rattle.store_resuming.specs.Restoring.{InOrder};
 
 use crate::resuming::{status_of_restore, write_answer};
@@ -65,9 +66,8 @@ pub(crate) fn answer_past<K: Sink, D: Keeper>(
     height: u64,
     what: &Query,
 ) -> Status
-    ensures ends { PastEnds form height what.now (K.written sink.old) (K.written sink.new)
-        (D.rows keeper.old) (D.rows keeper.new) (D.is_honest keeper.new)
-        (D.may_leave keeper.old) (D.may_leave keeper.new) result }
+    ensures ends { PastEnds form height what.now (by_sink K.written sink.old sink.new)
+        (by_keeper D.rows D.is_honest D.may_leave keeper.old keeper.new) result }
     ensures busy { result ≡ Status.Usage → ⊥ }
     ensures read { is_read_fault result ≡ false }
     ensures writes { Moved (is_write_fault result) (K.faults sink.old) (K.faults sink.new)

@@ -9,6 +9,7 @@ ghost use Rattle.run_app.specs.Counts.{Moved, is_keep_fault, is_read_fault, is_w
 ghost use Rattle.run_app.specs.Resumes.{Answers, QueryEnds, ResumeEnds, status_of_restore};
 ghost use Rattle.run_app.specs.Unkept.{FindsNoRows, IsOfNoRows};
 ghost use Rattle.run_app.specs.Writes.{Adds};
+ghost use Rattle.run_app.specs.Seen.{by_keeper, by_sink, by_source};
 
 use crate::answer::answer_text;
 use crate::generating::status_of_sink;
@@ -44,11 +45,11 @@ pub(crate) fn resume<S: Source, K: Sink, D: Keeper>(
     sink: &mut K,
     keeper: &mut D,
 ) -> Status
-    ensures ends { ResumeEnds form (S.left source.old) (S.left source.new)
-        (K.written sink.old) (K.written sink.new) (D.rows keeper.old) (D.rows keeper.new)
-        (D.is_honest keeper.new) (D.may_leave keeper.old) (D.may_leave keeper.new) result }
-    ensures unkept { D.keeps keeper.old ≡ false → FindsNoRows (S.left source.old)
-        (S.left source.new) (K.written sink.old) (K.written sink.new) result }
+    ensures ends { ResumeEnds form (by_source S.left source.old source.new)
+        (by_sink K.written sink.old sink.new)
+        (by_keeper D.rows D.is_honest D.may_leave keeper.old keeper.new) result }
+    ensures unkept { D.keeps keeper.old ≡ false → FindsNoRows
+        (by_source S.left source.old source.new) (by_sink K.written sink.old sink.new) result }
     ensures busy { result ≡ Status.Usage → ⊥ }
     ensures reads { Moved (is_read_fault result) (S.faults source.old) (S.faults source.new) }
     ensures writes { Moved (is_write_fault result) (K.faults sink.old) (K.faults sink.new)
@@ -115,9 +116,8 @@ pub(crate) fn answer<K: Sink, D: Keeper>(
     keeper: &mut D,
     what: &Query,
 ) -> Status
-    ensures ends { QueryEnds form what.now (K.written sink.old) (K.written sink.new)
-        (D.rows keeper.old) (D.rows keeper.new) (D.is_honest keeper.new)
-        (D.may_leave keeper.old) (D.may_leave keeper.new) result }
+    ensures ends { QueryEnds form what.now (by_sink K.written sink.old sink.new)
+        (by_keeper D.rows D.is_honest D.may_leave keeper.old keeper.new) result }
     ensures unkept { D.keeps keeper.old ≡ false → IsOfNoRows result
         × Adds (K.written sink.old) (K.written sink.new) (λ text. text ≡ []) }
     ensures busy { result ≡ Status.Usage → ⊥ }

@@ -24,6 +24,7 @@ ghost use Rattle.law_runs.specs.Paying.{RunsPayFairly};
 ghost use Rattle.run_trial.specs.Generated.{TrialIsOfItsLines};
 ghost use Rattle.run_app.specs.Rejoined.{RunsGoOn};
 ghost use Rattle.run_app.specs.Laws.{AnswersAreReplays, LinesAreReplayed};
+ghost use Rattle.run_app.specs.Seen.{by_keeper, by_sink, by_source};
 
 use crate::checking::check_all;
 use crate::feeding::{Progress, feed};
@@ -219,9 +220,9 @@ fn replay<S: Source, K: Sink, D: Keeper>(
     sink: &mut K,
     keeper: &mut D,
 ) -> Status
-    ensures ends { ReplayEnds form (S.left source.old) (S.left source.new)
-        (K.written sink.old) (K.written sink.new) (D.rows keeper.old) (D.rows keeper.new)
-        (D.is_honest keeper.new) (D.may_leave keeper.old) (D.may_leave keeper.new) result }
+    ensures ends { ReplayEnds form (by_source S.left source.old source.new)
+        (by_sink K.written sink.old sink.new)
+        (by_keeper D.rows D.is_honest D.may_leave keeper.old keeper.new) result }
     ensures busy { result ≡ Status.Usage → ⊥ }
     // A keeper that keeps nothing is never refused.
     ensures unkept { D.keeps keeper.old ≡ false → result ≡ Status.WrongStore false → ⊥ }
@@ -249,12 +250,12 @@ pub(crate) fn carry_out<S: Source, K: Sink, D: Keeper>(
     keeper: &mut D,
 ) -> Status
     requires few { HasFewBlocks mode }
-    ensures ends { ModeEnds form mode (S.left source.old) (S.left source.new)
-        (K.written sink.old) (K.written sink.new) (D.rows keeper.old) (D.rows keeper.new)
-        (D.is_honest keeper.new) (D.may_leave keeper.old) (D.may_leave keeper.new) result }
+    ensures ends { ModeEnds form mode (by_source S.left source.old source.new)
+        (by_sink K.written sink.old sink.new)
+        (by_keeper D.rows D.is_honest D.may_leave keeper.old keeper.new) result }
     ensures busy { result ≡ Status.Usage → ⊥ }
-    ensures unkept { D.keeps keeper.old ≡ false → ModeUnkept mode (S.left source.old)
-        (S.left source.new) (K.written sink.old) (K.written sink.new) result }
+    ensures unkept { D.keeps keeper.old ≡ false → ModeUnkept mode
+        (by_source S.left source.old source.new) (by_sink K.written sink.old sink.new) result }
     ensures reads { Moved (is_read_fault result) (S.faults source.old) (S.faults source.new) }
     ensures writes { Moved (is_write_fault result) (K.faults sink.old) (K.faults sink.new)
         × (result ≡ Status.Done → K.clean sink.new ≡ true) }
@@ -329,14 +330,13 @@ pub fn run<S: Source, K: Sink, D: Keeper>(
     // Its keeper takes every list of changes of distinct keys.
     requires takes { TakesDistinct (D.takes keeper.old) }
     // What was written and kept is what the words ask for.
-    ensures ends { CommandEnds (command_of (map string_bytes words.now)) (S.left source.old)
-        (S.left source.new) (K.written sink.old) (K.written sink.new)
-        (D.rows keeper.old) (D.rows keeper.new) (D.is_honest keeper.new)
-        (D.may_leave keeper.old) (D.may_leave keeper.new) result }
+    ensures ends { CommandEnds (command_of (map string_bytes words.now))
+        (by_source S.left source.old source.new) (by_sink K.written sink.old sink.new)
+        (by_keeper D.rows D.is_honest D.may_leave keeper.old keeper.new) result }
     // Over a keeper that keeps nothing a replay begins, and what goes on from rows finds none.
     ensures unkept { D.keeps keeper.old ≡ false
-        → CommandUnkept (command_of (map string_bytes words.now)) (S.left source.old)
-        (S.left source.new) (K.written sink.old) (K.written sink.new) result }
+        → CommandUnkept (command_of (map string_bytes words.now))
+        (by_source S.left source.old source.new) (by_sink K.written sink.old sink.new) result }
     // Whatever the status, a stop leaves the rows after a front of the lines that holds each line of which a byte was
     // written, and at most one line more.
     ensures stops { CommandStops (command_of (map string_bytes words.now)) (S.left source.old)

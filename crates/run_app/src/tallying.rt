@@ -12,6 +12,7 @@ ghost use Rattle.run_app.specs.Counts.{Moved, is_keep_fault, is_read_fault, is_w
 ghost use Rattle.run_app.specs.Tallies.{Counts, TallyEnds};
 ghost use Rattle.run_app.specs.Unkept.{FindsNoRows};
 ghost use Rattle.run_app.specs.Writes.{Writes};
+ghost use Rattle.run_app.specs.Seen.{by_keeper, by_sink, by_source};
 
 use crate::balloting::{Balloting, read_ballots};
 use crate::generating::status_of_sink;
@@ -112,11 +113,11 @@ pub(crate) fn tally<S: Source, K: Sink, D: Keeper>(
     sink: &mut K,
     keeper: &mut D,
 ) -> Status
-    ensures ends { TallyEnds form (S.left source.old) (S.left source.new)
-        (K.written sink.old) (K.written sink.new) (D.rows keeper.old) (D.rows keeper.new)
-        (D.is_honest keeper.new) (D.may_leave keeper.old) (D.may_leave keeper.new) result }
-    ensures unkept { D.keeps keeper.old ≡ false → FindsNoRows (S.left source.old)
-        (S.left source.new) (K.written sink.old) (K.written sink.new) result }
+    ensures ends { TallyEnds form (by_source S.left source.old source.new)
+        (by_sink K.written sink.old sink.new)
+        (by_keeper D.rows D.is_honest D.may_leave keeper.old keeper.new) result }
+    ensures unkept { D.keeps keeper.old ≡ false → FindsNoRows
+        (by_source S.left source.old source.new) (by_sink K.written sink.old sink.new) result }
     ensures busy { result ≡ Status.Usage → ⊥ }
     ensures reads { Moved (is_read_fault result) (S.faults source.old) (S.faults source.new) }
     ensures writes { Moved (is_write_fault result) (K.faults sink.old) (K.faults sink.new)
