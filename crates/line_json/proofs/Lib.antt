@@ -1,8 +1,10 @@
 pub mod BackLemmas
 pub mod CoinLemmas
 pub mod EndLemmas
+pub mod KeptLemmas
 pub mod ListLemmas
 pub mod OnWritten
+pub mod PieceLemmas
 pub mod PlaceLemmas
 pub mod ReadingLemmas
 pub mod ReadingOnLiterals

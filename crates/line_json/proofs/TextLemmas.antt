@@ -9,27 +9,33 @@ use Rattle.base_decimals.specs.Texts.{last_digits, without_zeros, dec_text}
 abbrev IsSmall : ℕ → Type 0
 IsSmall byte = byte < 128
 
-last_digits_small : (k n : ℕ) → All IsSmall (last_digits k n)
-last_digits_small zero n = All-nil IsSmall
-last_digits_small (suc k) n =
-    let first : 48 + n / 10 ^ k % 10 < 128 = omega arith in
-    All-cons IsSmall _ _ first (last_digits_small k n)
+last_digits_all : (P : ℕ → Type 0) → ((d : ℕ) → d < 10 → P (48 + d)) → (k n : ℕ) → All P (last_digits k n)
+last_digits_all P digit zero n = All-nil P
+last_digits_all P digit (suc k) n = All-cons P _ _ (digit (n / 10 ^ k % 10) (omega arith)) (last_digits_all P digit k n)
 
-chosen_small : (b : Bool) (xs ys : List ℕ) → All IsSmall xs → All IsSmall ys → All IsSmall (cond b xs ys)
-chosen_small true xs ys h k = h
-chosen_small false xs ys h k = k
+chosen_all : (P : ℕ → Type 0) (b : Bool) (xs ys : List ℕ) → All P xs → All P ys → All P (cond b xs ys)
+chosen_all P true xs ys h k = h
+chosen_all P false xs ys h k = k
 
-without_zeros_small : (ds : List ℕ) → All IsSmall ds → All IsSmall (without_zeros ds)
-without_zeros_small [] h = h
-without_zeros_small (d ∷ []) h = h
-without_zeros_small (d ∷ e ∷ ds) h = chosen_small (d == 48) _ _ (without_zeros_small (e ∷ ds) (All-tail IsSmall d (e ∷ ds) h)) h
+without_zeros_all : (P : ℕ → Type 0) (ds : List ℕ) → All P ds → All P (without_zeros ds)
+without_zeros_all P [] h = h
+without_zeros_all P (d ∷ []) h = h
+without_zeros_all P (d ∷ e ∷ ds) h = chosen_all P (d == 48) _ _ (without_zeros_all P (e ∷ ds) (All-tail P d (e ∷ ds) h)) h
+
+-- what holds for digits and the point holds for the text of a decimal
+pub dec_text_all : (P : ℕ → Type 0) → ((d : ℕ) → d < 10 → P (48 + d)) → P 46 → (n : ℕ) → All P (dec_text n)
+dec_text_all P digit point n =
+    let whole : All P (without_zeros (last_digits 20 (n / 10 ^ 18))) = without_zeros_all P (last_digits 20 (n / 10 ^ 18)) (last_digits_all P digit 20 (n / 10 ^ 18)) in
+    let places : All P (46 ∷ last_digits 18 (n % 10 ^ 18)) = All-cons P 46 (last_digits 18 (n % 10 ^ 18)) point (last_digits_all P digit 18 (n % 10 ^ 18)) in
+    All-append P (without_zeros (last_digits 20 (n / 10 ^ 18))) (46 ∷ last_digits 18 (n % 10 ^ 18)) whole places
+
+digit_small : (d : ℕ) → d < 10 → IsSmall (48 + d)
+digit_small d h = omega (arith, h)
 
 pub dec_text_is_utf8 : (n : ℕ) → IsUtf8 (dec_text n)
 dec_text_is_utf8 n =
-    let whole : All IsSmall (without_zeros (last_digits 20 (n / 10 ^ 18))) = without_zeros_small (last_digits 20 (n / 10 ^ 18)) (last_digits_small 20 (n / 10 ^ 18)) in
-    let point : 46 < 128 = omega arith in
-    let places : All IsSmall (46 ∷ last_digits 18 (n % 10 ^ 18)) = All-cons IsSmall 46 (last_digits 18 (n % 10 ^ 18)) point (last_digits_small 18 (n % 10 ^ 18)) in
-    IsUtf8-from_ascii (dec_text n) (IsAscii-from_all (dec_text n) (All-append IsSmall (without_zeros (last_digits 20 (n / 10 ^ 18))) (46 ∷ last_digits 18 (n % 10 ^ 18)) whole places))
+    let point : IsSmall 46 = omega arith in
+    IsUtf8-from_ascii (dec_text n) (IsAscii-from_all (dec_text n) (dec_text_all IsSmall digit_small point n))
 
 letter_small : (c : ℕ) → is_letter c ≡ true → c < 128
 letter_small c h = grind (arith, nat_tests)
@@ -37,19 +43,23 @@ letter_small c h = grind (arith, nat_tests)
 denom_character_small : (c : ℕ) → is_denom_character c ≡ true → c < 128
 denom_character_small c h = grind (arith, nat_tests)
 
-denom_characters_small : (cs : List ℕ) → list_all is_denom_character cs ≡ true → All IsSmall cs
-denom_characters_small [] h = All-nil IsSmall
-denom_characters_small (c ∷ cs) h =
+denom_characters_all : (P : ℕ → Type 0) → ((c : ℕ) → is_denom_character c ≡ true → P c) → (cs : List ℕ) → list_all is_denom_character cs ≡ true → All P cs
+denom_characters_all P character [] h = All-nil P
+denom_characters_all P character (c ∷ cs) h =
     let parts = and_parts (is_denom_character c) (list_all is_denom_character cs) h in
-    All-cons IsSmall c cs (denom_character_small c parts.0) (denom_characters_small cs parts.1)
+    All-cons P c cs (character c parts.0) (denom_characters_all P character cs parts.1)
 
-pub denom_is_utf8 : (name : List ℕ) → is_denom name ≡ true → IsUtf8 name
-denom_is_utf8 [] h = absurd cc
-denom_is_utf8 (first ∷ others) h =
+-- what holds for letters and other characters of names holds for the name of a denomination
+pub denom_all : (P : ℕ → Type 0) → ((c : ℕ) → is_letter c ≡ true → P c) → ((c : ℕ) → is_denom_character c ≡ true → P c) → (name : List ℕ) → is_denom name ≡ true → All P name
+denom_all P letter character [] h = absurd cc
+denom_all P letter character (first ∷ others) h =
     let parts = and_parts (is_letter first && nat_le 2 (length others) && nat_le (length others) 127) (list_all is_denom_character others) h in
     let front = and_parts (is_letter first && nat_le 2 (length others)) (nat_le (length others) 127) parts.0 in
-    let letter = and_parts (is_letter first) (nat_le 2 (length others)) front.0 in
-    IsUtf8-from_ascii (first ∷ others) (IsAscii-from_all (first ∷ others) (All-cons IsSmall first others (letter_small first letter.0) (denom_characters_small others parts.1)))
+    let begin = and_parts (is_letter first) (nat_le 2 (length others)) front.0 in
+    All-cons P first others (letter first begin.0) (denom_characters_all P character others parts.1)
+
+pub denom_is_utf8 : (name : List ℕ) → is_denom name ≡ true → IsUtf8 name
+denom_is_utf8 name h = IsUtf8-from_ascii name (IsAscii-from_all name (denom_all IsSmall letter_small denom_character_small name h))
 
 -- bytes that begin with those of a text, cut at its length
 pub front_of : (text rest bytes : List ℕ) (n : ℕ) → n ≡ length text → bytes ≡ text ++ rest → take n bytes ≡ text

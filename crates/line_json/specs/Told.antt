@@ -1,10 +1,10 @@
 -- Members as a writer tells them, one after another.
-use Rattle.std.specs.Prelude.{ℕ, List, [], ◌∷◌, map}
+use Rattle.std.specs.Prelude.{ℕ, List, [], ◌∷◌, ◌++◌, map}
 use Rattle.std.specs.Borrow.{Bor}
 use Rattle.json.specs.Token.{Token}
 use Rattle.json.specs.Tree.{json_tokens}
 use Rattle.serde_json.specs.Data.{Data, Members, boolean, no_members, member, string}
-use Rattle.serde_json.specs.Written.{outline}
+use Rattle.serde_json.specs.Written.{compact_text, outline}
 use Rattle.base_coins.specs.Coins.{Money}
 use Rattle.base_roles.specs.Refusals.{refusal_number}
 use Rattle.line_json.specs.declared.told.Told.{Told}
@@ -44,3 +44,8 @@ listed (m ∷ ms) = member m.0.now (told_data m.1) (listed ms)
 -- what a writer writes for data
 abbrev pub data_tokens : Data → List Token
 data_tokens d = json_tokens (outline d)
+
+-- pieces of text, each with the text of a value behind it, and a piece at the end
+abbrev pub pieced : List (Bor (List ℕ) × Told) → List ℕ → List ℕ
+pieced [] end = end
+pieced (p ∷ ps) end = p.0.now ++ (compact_text (told_data p.1) ++ pieced ps end)

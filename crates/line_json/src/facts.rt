@@ -4,6 +4,7 @@ ghost use Rattle.base_bech32.specs.declared.form.Form.{Form};
 ghost use Rattle.line_json.specs.Facts.{about, fact_data};
 ghost use Rattle.line_json.specs.Line.{line_of, told_at};
 
+use crate::pieces::push_pieces;
 use crate::told::Told;
 use crate::writing::push_line;
 use base_bech32::Form;
@@ -27,14 +28,13 @@ fn transfer<'a>(
         ++ line_of (fact_data form height (Fact.Transfer from.now to.now coins.now))) }
     ensures fault { IfErr result (λ fault. fault ≡ LineFault.NoMemory) }
 {
-    let members = [
-        ("coins", Told::Coins(coins)),
-        ("from", Told::Account(form, from)),
-        ("height", Told::Count(height)),
-        ("kind", Told::Word("transfer")),
-        ("to", Told::Account(form, to)),
+    let pieces = [
+        ("{\"coins\":", Told::Coins(coins)),
+        (",\"from\":", Told::Account(form, from)),
+        (",\"height\":", Told::Count(height)),
+        (",\"kind\":\"transfer\",\"to\":", Told::Account(form, to)),
     ];
-    push_line(alloc, out, &members)
+    push_pieces(alloc, out, &pieces, "}")
 }
 
 fn burn<'a>(
@@ -70,13 +70,15 @@ fn allocated<'a>(
         ++ line_of (fact_data form height (Fact.Allocated validator.now share.now))) }
     ensures fault { IfErr result (λ fault. fault ≡ LineFault.NoMemory) }
 {
-    let members = [
-        ("coins", Told::DecCoins(share)),
-        ("height", Told::Count(height)),
-        ("kind", Told::Word("allocated")),
-        ("validator", Told::Operator(form, validator)),
+    let pieces = [
+        ("{\"coins\":", Told::DecCoins(share)),
+        (",\"height\":", Told::Count(height)),
+        (
+            ",\"kind\":\"allocated\",\"validator\":",
+            Told::Operator(form, validator),
+        ),
     ];
-    push_line(alloc, out, &members)
+    push_pieces(alloc, out, &pieces, "}")
 }
 
 fn pooled<'a>(
@@ -89,12 +91,11 @@ fn pooled<'a>(
         ++ line_of (fact_data form height (Fact.Pooled coins.now))) }
     ensures fault { IfErr result (λ fault. fault ≡ LineFault.NoMemory) }
 {
-    let members = [
-        ("coins", Told::DecCoins(coins)),
-        ("height", Told::Count(height)),
-        ("kind", Told::Word("pooled")),
+    let pieces = [
+        ("{\"coins\":", Told::DecCoins(coins)),
+        (",\"height\":", Told::Count(height)),
     ];
-    push_line(alloc, out, &members)
+    push_pieces(alloc, out, &pieces, ",\"kind\":\"pooled\"}")
 }
 
 fn period_ended<'a>(
@@ -110,14 +111,13 @@ fn period_ended<'a>(
         ++ line_of (fact_data form height (Fact.Period validator.now period ratio.now))) }
     ensures fault { IfErr result (λ fault. fault ≡ LineFault.NoMemory) }
 {
-    let members = [
-        ("height", Told::Count(height)),
-        ("kind", Told::Word("period")),
-        ("period", Told::Count(period)),
-        ("ratio", Told::DecCoins(ratio)),
-        ("validator", Told::Operator(form, validator)),
+    let pieces = [
+        ("{\"height\":", Told::Count(height)),
+        (",\"kind\":\"period\",\"period\":", Told::Count(period)),
+        (",\"ratio\":", Told::DecCoins(ratio)),
+        (",\"validator\":", Told::Operator(form, validator)),
     ];
-    push_line(alloc, out, &members)
+    push_pieces(alloc, out, &pieces, "}")
 }
 
 fn started<'a>(
@@ -134,15 +134,14 @@ fn started<'a>(
         ++ line_of (fact_data form height (Fact.Started delegator.now validator.now period stake))) }
     ensures fault { IfErr result (λ fault. fault ≡ LineFault.NoMemory) }
 {
-    let members = [
-        ("delegator", Told::User(form, delegator)),
-        ("height", Told::Count(height)),
-        ("kind", Told::Word("started")),
-        ("period", Told::Count(period)),
-        ("stake", Told::Decimal(stake)),
-        ("validator", Told::Operator(form, validator)),
+    let pieces = [
+        ("{\"delegator\":", Told::User(form, delegator)),
+        (",\"height\":", Told::Count(height)),
+        (",\"kind\":\"started\",\"period\":", Told::Count(period)),
+        (",\"stake\":", Told::Decimal(stake)),
+        (",\"validator\":", Told::Operator(form, validator)),
     ];
-    push_line(alloc, out, &members)
+    push_pieces(alloc, out, &pieces, "}")
 }
 
 fn slashed<'a>(
@@ -184,16 +183,15 @@ fn paid<'a>(
         (Fact.Paid delegator.now validator.now to.now reward.now coins.now))) }
     ensures fault { IfErr result (λ fault. fault ≡ LineFault.NoMemory) }
 {
-    let members = [
-        ("coins", Told::Coins(coins)),
-        ("delegator", Told::User(form, delegator)),
-        ("height", Told::Count(height)),
-        ("kind", Told::Word("paid")),
-        ("reward", Told::DecCoins(reward)),
-        ("to", Told::User(form, to)),
-        ("validator", Told::Operator(form, validator)),
+    let pieces = [
+        ("{\"coins\":", Told::Coins(coins)),
+        (",\"delegator\":", Told::User(form, delegator)),
+        (",\"height\":", Told::Count(height)),
+        (",\"kind\":\"paid\",\"reward\":", Told::DecCoins(reward)),
+        (",\"to\":", Told::User(form, to)),
+        (",\"validator\":", Told::Operator(form, validator)),
     ];
-    push_line(alloc, out, &members)
+    push_pieces(alloc, out, &pieces, "}")
 }
 
 fn commission_paid<'a>(
@@ -209,14 +207,13 @@ fn commission_paid<'a>(
         ++ line_of (fact_data form height (Fact.Commission validator.now to.now coins.now))) }
     ensures fault { IfErr result (λ fault. fault ≡ LineFault.NoMemory) }
 {
-    let members = [
-        ("coins", Told::Coins(coins)),
-        ("height", Told::Count(height)),
-        ("kind", Told::Word("commission")),
-        ("to", Told::User(form, to)),
-        ("validator", Told::Operator(form, validator)),
+    let pieces = [
+        ("{\"coins\":", Told::Coins(coins)),
+        (",\"height\":", Told::Count(height)),
+        (",\"kind\":\"commission\",\"to\":", Told::User(form, to)),
+        (",\"validator\":", Told::Operator(form, validator)),
     ];
-    push_line(alloc, out, &members)
+    push_pieces(alloc, out, &pieces, "}")
 }
 
 fn changed<'a>(

@@ -19,6 +19,7 @@ mod names;
 mod nested;
 mod outcomes;
 mod params_reading;
+mod pieces;
 mod place;
 mod plain;
 mod reading;

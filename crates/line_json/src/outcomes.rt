@@ -5,6 +5,7 @@ ghost use Rattle.line_json.specs.Line.{line_of, told_at};
 ghost use Rattle.line_json.specs.Outcomes.{outcome_data, refused_members};
 ghost use Rattle.line_json.specs.Values.{count_data};
 
+use crate::pieces::push_pieces;
 use crate::told::Told;
 use crate::writing::push_line;
 use base_decimals::Over;
@@ -18,12 +19,11 @@ fn accepted(alloc: Global, out: &mut Vec<u8>, height: u64, place: usize) -> Resu
         ++ line_of (outcome_data height place Outcome.Accepted)) }
     ensures fault { IfErr result (λ fault. fault ≡ LineFault.NoMemory) }
 {
-    let members = [
-        ("height", Told::Count(height)),
-        ("kind", Told::Word("accepted")),
-        ("tx", Told::Count(place as u64)),
+    let pieces = [
+        ("{\"height\":", Told::Count(height)),
+        (",\"kind\":\"accepted\",\"tx\":", Told::Count(place as u64)),
     ];
-    push_line(alloc, out, &members)
+    push_pieces(alloc, out, &pieces, "}")
 }
 
 fn unpaid(alloc: Global, out: &mut Vec<u8>, height: u64, place: usize) -> Result<(), LineFault>
@@ -54,14 +54,16 @@ fn refused(
         (refused_members place message (refusal_number reason) []))) }
     ensures fault { IfErr result (λ fault. fault ≡ LineFault.NoMemory) }
 {
-    let members = [
-        ("height", Told::Count(height)),
-        ("kind", Told::Word("refused")),
-        ("msg", Told::Count(message as u64)),
-        ("number", Told::Number(reason)),
-        ("tx", Told::Count(place as u64)),
+    let pieces = [
+        ("{\"height\":", Told::Count(height)),
+        (
+            ",\"kind\":\"refused\",\"msg\":",
+            Told::Count(message as u64),
+        ),
+        (",\"number\":", Told::Number(reason)),
+        (",\"tx\":", Told::Count(place as u64)),
     ];
-    push_line(alloc, out, &members)
+    push_pieces(alloc, out, &pieces, "}")
 }
 
 /// A message that was refused because a validator stays jailed.
