@@ -26,7 +26,7 @@ INVARIANTS = [
     ("Only the laws of records know modules", "law_", NEVER, "mod_ store_",
      {"law_records": "mod_sums mod_staking mod_periods mod_allocation mod_signing mod_distribution "
                      "store_records store_soundness",
-      "law_lines": "mod_statement"}),
+      "law_lines": "mod_statement", "law_statements": "mod_statement mod_recorder mod_tracking"}),
     ("Modules know no lines", "mod_", NEVER, "line_ run_ store_ chain_", {}),
     ("Modules know roles and not the bank", "mod_", NEVER, "mod_bank", {}),
     ("Distribution and evidence know no staking", "mod_distribution mod_periods mod_allocation mod_evidence", NEVER,

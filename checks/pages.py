@@ -8,6 +8,7 @@ PAGES = ["README.md", "CONTRIBUTING.md", "docs/FORMATS.md", "docs/OPERATING.md",
 # the words that begin a command; what else is indented shows code, files or words
 BEGINS = re.compile(r"(bash|cd|curl|head|python3|rt|seq|sqlite3|tail|tar) |\./stakeplay\.sh |\w+=")
 OPERATOR, USER = "02" + "07" * 19, "5" * 40
+PAYING = "1" * 40  # the operator of the example's history whose validator pays the user twice
 MARK = "@@@"
 
 
@@ -97,6 +98,11 @@ def says(text):
     return lambda out, err: text in out + err
 
 
+def finds_right(out, err):
+    """Both statements of the user's payments are right."""
+    return out == "".join(f'{{"kind":"checked","line":{line},"yes":true}}\n' for line in (1, 2))
+
+
 def ends_by_pool(out, err):
     return out.endswith('"kind":"pool"}\n')
 
@@ -116,7 +122,7 @@ BALLOTS = '{"kind":"ballot","voter":"' + USER + '","option":"yes"}'
 # status that it ends with and what it is to write; None in place of all of this: it is not run here, since it proves
 ROWS = [
     ("README.md", "./stakeplay.sh - replay", "", {"bash .ci/run": "true"}, [writes(WHOLE), writes("")]),
-    ("README.md", "head -n 4", "", {}, [begins, writes(REST), spelled_rewards, ends_by_pool]),
+    ("README.md", "head -n 4", "", {}, [begins, writes(REST), spelled_rewards, finds_right]),
     ("CONTRIBUTING.md", "cd crates/mod_staking", None, {}, None),
     ("docs/FORMATS.md", "sqlite3 FILE", REPLAYED, {"FILE": "chain.db"}, [writes(f"{851:032X}\n")]),
     ("docs/OPERATING.md", "sqlite3 chain.db", REPLAYED, {}, [writes("4\n")]),
@@ -149,6 +155,7 @@ ROWS = [
     ("--help", "./stakeplay.sh chain.db keep replay", "", {}, [writes(WHOLE)]),
     ("--help", "./stakeplay.sh chain.db past 3 query supply", REPLAYED.replace("replay", "keep replay"), {},
      [says('"kind":"supply"}')]),
+    ("--help", "./stakeplay.sh - statement", "", {"DELEGATOR": USER, "OPERATOR": PAYING}, [finds_right]),
     ("--help", "./stakeplay.sh - check", "", {}, [says('"kind":"checked"')]),
     ("--help", "./stakeplay.sh chain.db tally", f"{REPLAYED}echo '{BALLOTS}' > ballots.jsonl\n", {},
      [says('"kind":"tally"')]),

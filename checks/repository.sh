@@ -9,7 +9,7 @@ cd "$(dirname "$0")/.."
 bad=0
 # crates of definitions, laws and worked examples alone, which have no body that could be wrong (as those of tests alone, by
 # their names), and the program, whose body is one call
-no_edits=" rule_modules rule_machine rule_worked rule_histories law_rewards law_soundness law_records law_runs run_worked stakeplay "
+no_edits=" rule_modules rule_machine rule_worked rule_histories law_rewards law_soundness law_records law_runs law_statements run_worked stakeplay "
 # crates whose check, which an edit costs once more, is long (bench/README.md has the gate's budget), and for which no wrong
 # body is among those that every reader should see refused; they may have edits, and most have none
 long_checks=" base_types base_coins base_roles line_json "

@@ -402,7 +402,8 @@ def main():
         functions(programs["replay"], WORK / "100000.jsonl")
 
 
-try:
-    main()
-finally:
-    shutil.rmtree(WORK, ignore_errors=True)
+if __name__ == "__main__":
+    try:
+        main()
+    finally:
+        shutil.rmtree(WORK, ignore_errors=True)

@@ -4,7 +4,7 @@
 Who wants it: whoever declares what an address earned, and a program for taxes that reads CSV.
 One command:  python3 tax_sheet.py ADDRESS run.out            (`-` for standard input)
               python3 tax_sheet.py ADDRESS run.out run.jsonl  (with the input beside it; see below)
-              python3 tax_sheet.py ADDRESS run.out statements=FILE        (with reward statements; in front of run.jsonl too)
+              python3 tax_sheet.py ADDRESS run.out statements=FILE  (with reward statements; in front of run.jsonl too)
 What comes out, for the third user of the example `life.out`:
     time,height,what,in,out,aside,denom,other
     2024-01-01T00:00:05Z,1,fee,,300,,uatom,
@@ -12,9 +12,9 @@ What comes out, for the third user of the example `life.out`:
 `aside` is what did not pass through it: a reward that went to another payee, the part of a slash that its stake bore
 (cut to whole units), and at a report its balance and what is pending.
 
-With reward statements, a line each, a payment that has one has rows for what it was before whole coins were paid,
-between which bounds sharing each block's fees at once would put it, and the slack of rounding. Whether a statement is
-right is another question: `check_statement.py`.
+With reward statements, as the command `statement` makes them, a payment that has one has rows for what it was before
+whole coins were paid, between which bounds sharing each block's fees at once would put it, and the slack of rounding.
+Whether a statement is right is another question: `check_statement.py`.
 
 A refusal names nobody: it is told of the payer of its fee, so one without a fee is told only with the input beside
 the output, as is what a slash takes of a delegation of the genesis. Burns of unbonding entries name no delegator and

@@ -8,9 +8,9 @@ use Rattle.rule_modules.specs.Chain.{State}
 use Rattle.mod_distribution.specs.Items as distr
 use Rattle.rule_machine.specs.Items.{IsInKeyOrder, items_of}
 use Rattle.chain_modules.specs.declared.modules.Modules.{Modules}
-use Rattle.chain_modules.specs.Kept.{KeptState, Parts, StandsFor, kept_of, kept_over, parts_of}
+use Rattle.chain_modules.specs.Kept.{KeptState, Parts, StandsFor, kept_of, kept_over, parts_of, listener_of}
 use Rattle.chain_modules.specs.{Marks.{AreAtRest, settled_of, settled_over}, Items.{items_of as module_items}}
-use Rattle.chain_whole.{specs.{Answers.LeavesChain, Chained.chained}, proofs.ItemLemmas.items_are_kept}
+use Rattle.chain_whole.{specs.{Answers.{HasStayed, LeavesChain}, Chained.chained}, proofs.ItemLemmas.items_are_kept}
 
 -- modules that are settled and have no facts keep what was settled
 pub settled_now : {E : Type 0} (m : Modules E) → settled_of m ≡ parts_of m → m.ground.facts ≡ [] → settled_over m.ground.ctx m ≡ kept_of m
@@ -25,13 +25,14 @@ pub settled_same : {E : Type 0} (old new : Modules E) (c : Ctx) → settled_of n
 settled_same old new c e = ap (λ (p : Parts). kept_over p c []) e
 
 -- after a fault that is not for memory nothing has changed
-pub leaves_same : {E : Type 0} (old new : Modules E) (c : Ctx) (fault : BlockFault) → (fault ≡ block.NoMemory → ⊥) → kept_of new ≡ kept_of old → settled_of new ≡ settled_of old → LeavesChain (chained old c false) (chained new c false) (Err fault)
-leaves_same old new c fault other k s = by fault other
+pub leaves_same : {E P : Type 0} (heard : E → P) (old new : Modules E) (c : Ctx) (fault : BlockFault) → (fault ≡ block.NoMemory → ⊥) → kept_of new ≡ kept_of old → settled_of new ≡ settled_of old → heard (listener_of new) ≡ heard (listener_of old)
+    → LeavesChain heard (chained old c false) (chained new c false) (Err fault)
+leaves_same heard old new c fault other k s h = by fault other
   where
-    same : chained new c false ≡ chained old c false
-    same = λ i. record { kept = k i; settled = settled_same old new c s i; spent = false }
+    same : HasStayed heard (chained old c false) (chained new c false)
+    same = record { kept = k; settled = settled_same old new c s; spent = refl; listener = h }
 
-    by : (f : BlockFault) → (f ≡ block.NoMemory → ⊥) → LeavesChain (chained old c false) (chained new c false) (Err f)
+    by : (f : BlockFault) → (f ≡ block.NoMemory → ⊥) → LeavesChain heard (chained old c false) (chained new c false) (Err f)
     by (block.BadHeight due) n = (refl, same)
     by (block.BadTime last) n = (refl, same)
     by (block.UnknownVote place) n = (refl, same)

@@ -175,3 +175,8 @@ module _ {E P : Type 0} (heard : E → P) where
           → HasHeard (r >>= λ t. stopping Overflow (set_updated (overheard_told hears) t) >>= λ u. Ok (made u)) (heard (listener_of done))
       by (Ok t) h = last (set_updated (overheard_told hears) t) h
       by (Err why) h = h
+
+  -- what a step leaves with what was heard, the listener has heard
+  pub has_heard : {F : Type 0} (stands : KeptState → State → Type 0) (m : Modules E) (q : Result (Hearing P) F) → HearsAfter heard stands q m → HasHeard q (heard (listener_of m))
+  has_heard stands m (Ok w) h = h.1
+  has_heard stands m (Err why) h = h

@@ -8,6 +8,7 @@ ghost use Rattle.base_roles.specs.Items.{AreChanges};
 ghost use Rattle.base_roles.specs.Staked.{validator_at};
 ghost use Rattle.rule_machine.specs.GenesisConditions.{start_condition};
 ghost use Rattle.rule_machine.specs.Items.{IsInKeyOrder, items_of};
+ghost use Rattle.rule_machine.specs.Listening.{block_heard, genesis_heard, hearing};
 ghost use Rattle.rule_machine.specs.Promises.{TxHasCoins};
 ghost use Rattle.rule_machine.specs.Report.{pending_of};
 ghost use Rattle.rule_modules.specs.Chain.{State, shared_in};
@@ -17,7 +18,7 @@ ghost use Rattle.mod_distribution.specs.Items.{AreInOrder};
 ghost use Rattle.chain_modules.specs.Kept.{StandsFor};
 ghost use Rattle.chain_modules.specs.Marks.{AreAtRest, settled_of};
 ghost use Rattle.chain_blocks.specs.Answers.{Applies};
-ghost use Rattle.chain_whole.specs.Answers.{IsGenesisFault, Starts, LeavesChain, GoesOnFairly};
+ghost use Rattle.chain_whole.specs.Answers.{HasHeard, IsGenesisFault, Starts, LeavesChain, GoesOnFairly};
 ghost use Rattle.chain_whole.specs.Chained.{chained};
 ghost use Rattle.chain_whole.specs.Pending.{ArePendingTo};
 
@@ -38,7 +39,7 @@ use std::sync::ledger::Blank;
 
 /// A chain, with a listener that hears what staking does and changes nothing of it; mostly there is none. Contracts
 /// see what it keeps and what was settled, which stand for states of the machine, and whether memory was wanting in
-/// a block. Of these nothing depends on the listener.
+/// a block; of these nothing depends on the listener. They also see the listener.
 pub struct Chain<E: Extra = NoHooks> {
     modules: Modules<E>,
     /// The height, time and parameters at the last settling.
@@ -60,9 +61,9 @@ impl<E: Extra> Drop for Chain<E> {
 impl<E: Extra> Model for Chain<E> {
     ghost use Rattle.mod_distribution.specs.Items.{AreInOrder};
     ghost use Rattle.chain_modules.specs.Marks.{AreAtRest, settled_of};
-    ghost use Rattle.chain_whole.specs.Chained.{Chained, chained};
+    ghost use Rattle.chain_whole.specs.Chained.{Listened, chained};
 
-    ghost Value = { Chained };
+    ghost Value = { Listened E };
 
     ghost view = { λ c. chained c.modules c.settled c.spent };
 
@@ -116,6 +117,8 @@ impl<E: Extra> Chain<E> {
     ) -> Result<(Chain<E>, Facts), ChainFault>
         ensures starts { IfOk result (λ _. start_condition genesis.now ≡ None) }
         ensures chain { IfOk result (λ first. Starts genesis.now first.1 first.0.kept) }
+        ensures heard { IfOk result (λ first. HasHeard
+            (genesis_heard E.hears genesis.now (E.heard listener)) (E.heard first.0.listener)) }
         ensures settled { IfOk result (λ first. first.0.settled ≡ first.0.kept) }
         ensures unspent { IfOk result (λ first. first.0.spent ≡ false) }
         ensures fault { IfErr result (IsGenesisFault (start_condition genesis.now)) }
@@ -128,7 +131,9 @@ impl<E: Extra> Chain<E> {
     }
 
     /// The listener. Takes no memory.
-    pub fn extra(&self) -> &E {
+    pub fn extra(&self) -> &E
+        ensures { result.now ≡ self.now.listener }
+    {
         &self.modules.hooks.first.listener
     }
 
@@ -150,12 +155,15 @@ impl<E: Extra> Chain<E> {
     /// block's, its time is after the block's, or its power stands for more than 10^18 tokens; `RatioLimit` with
     /// the operands, where a result of the block's beginning would be 10^38 units or more, or a period that it
     /// ends is 10^18; and `NoMemory`. After all but the last nothing has changed; after `NoMemory` each later
-    /// call answers `NoMemory`.
+    /// call answers `NoMemory`. Of a block that was applied the listener has heard all hooks.
     pub fn apply_block(&mut self, alloc: Global, block: &Block) -> Result<BlockReport, BlockFault>
         requires height { block.now.height < 2 ^ 63 }
         ensures applies { (p : State) → StandsFor self.old.kept p
             → Applies block.now p self.new.kept result }
-        ensures leaves { LeavesChain self.old self.new result }
+        ensures heard { (p : State) → StandsFor self.old.kept p → OnOk result (HasHeard
+            (block_heard E.hears E.parted E.ended block.now
+            (hearing (E.heard self.old.listener) p)) (E.heard self.new.listener)) }
+        ensures leaves { LeavesChain E.heard self.old self.new result }
         // Where the chain stood for a state of reached accounts, as a genesis starts one, a block pays
         // fairly, and leaves such a state again.
         ensures fairly { (p : State) → StandsFor self.old.kept p → AreReached p → AreStarted p
@@ -210,6 +218,7 @@ impl<E: Extra> Chain<E> {
     pub fn settle(&mut self)
         ensures settled { self.new.settled ≡ self.old.kept }
         ensures kept { self.new.kept ≡ self.old.kept }
+        ensures listener { self.new.listener ≡ self.old.listener }
         ensures spent { self.new.spent ≡ self.old.spent }
     {
         settle_modules::<E, Brand>(&mut self.modules, Blank::new(1));

@@ -10,7 +10,7 @@ ghost use Rattle.base_roles.specs.Items.{AreChanges};
 ghost use Rattle.base_roles.specs.Staked.{validator_at};
 ghost use Rattle.rule_modules.specs.Chain.{State};
 ghost use Rattle.mod_distribution.specs.Items.{AreInOrder};
-ghost use Rattle.chain_modules.specs.Kept.{StandsFor, kept_of, parts_of};
+ghost use Rattle.chain_modules.specs.Kept.{StandsFor, kept_of, parts_of, listener_of};
 ghost use Rattle.chain_modules.specs.Marks.{AreAtRest, settled_of, settled_over};
 ghost use Rattle.chain_modules.specs.Items.{items_of as module_items};
 ghost use Rattle.chain_whole.specs.Chained.{coin_in};
@@ -74,6 +74,7 @@ pub(crate) fn settle_modules<E: Extra, L: Ledger>(modules: &mut Modules<E>, blan
     requires rest { AreAtRest modules.old }
     ensures settled { settled_of modules.new ≡ parts_of modules.old }
     ensures same { kept_of modules.new ≡ kept_of modules.old }
+    ensures listener { listener_of modules.new ≡ listener_of modules.old }
     ensures rest { AreAtRest modules.new }
     ensures order { AreInOrder (settled_of modules.new).shared }
 {

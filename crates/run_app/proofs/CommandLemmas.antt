@@ -5,7 +5,7 @@ use Rattle.base_io.specs.{Outside.Rose, Rows.Pair}
 use Rattle.run_generated.specs.Writing.{generated_text}
 use Rattle.run_trial.specs.Trial.{trial_of}
 use Rattle.run_words.specs.declared.{fault.WordsFault.WordsFault, mode.{Command.Command, Mode.Mode}}
-use Rattle.run_words.specs.declared.mode.Mode.TheVariants.{Replay, Resume, Query, Tally, Check, Gen, Trial}
+use Rattle.run_words.specs.declared.mode.Mode.TheVariants.{Replay, Resume, Query, Tally, Check, Statement, Gen, Trial}
 use Rattle.run_words.specs.declared.fault.WordsFault.TheVariants as words
 use Rattle.run_app.specs.declared.status.Status.{Status}
 use Rattle.run_app.specs.declared.status.Status.TheVariants.{Done, Usage, BadInput, Limit, ReadFault, WriteFault, KeepFault, NoMemory, BadStore, WrongStore, NotFound, NoPast}
@@ -16,7 +16,8 @@ use Rattle.run_app.specs.{Ending.status_of_words, Kept.AreSome, Modes.{IsTried, 
 use Rattle.run_app.specs.{Unkept.ModeUnkept, Writes.IsWritten, Seen.{keeper_told, sink_told, source_told}}
 use Rattle.run_app.proofs.{CheckLemmas.{check_unbegun, untroubled_check}, DriveLemmas.untroubled_run}
 use Rattle.run_app.proofs.ModeLemmas.{finds_none, nothing, nothing_done, rows_left, same_rows, tried_without_memory, unbegun_replay, untouched, written_to_end}
-use Rattle.run_app.proofs.{ResumeLemmas.{untroubled_query, untroubled_resume}, TallyLemmas.untroubled_tally}
+use Rattle.run_app.proofs.ResumeLemmas.{untroubled_query, untroubled_resume}
+use Rattle.run_app.proofs.{StatingLemmas.{statement_unbegun, untroubled_statement}, TallyLemmas.untroubled_tally}
 
 -- before anything is taken, a run may end where memory is wanting, and leaves all as it was
 mode_unbegun : (form : Form) (m : Mode) (left w : Option (List ℕ)) (rows : Option (List Pair)) (honest : Type 0) (leaves : List Pair → Type 0) → ModeEnds form m (source_told left left) (sink_told w w) (keeper_told rows rows honest leaves leaves) NoMemory
@@ -25,6 +26,7 @@ mode_unbegun form Resume left w rows honest leaves = inr (inl (tt, nothing_done 
 mode_unbegun form (Query what) left w rows honest leaves = (refl, (rows_left rows rows honest leaves leaves (same_rows rows) (λ h l x. x), inr (tt, nothing w _ refl)))
 mode_unbegun form Tally left w rows honest leaves = (rows_left rows rows honest leaves leaves (same_rows rows) (λ h l x. x), inr (tt, nothing_done left w))
 mode_unbegun form Check left w rows honest leaves = (check_unbegun form left w, untouched rows leaves)
+mode_unbegun form (Statement delegator operator) left w rows honest leaves = (statement_unbegun form delegator operator left w, untouched rows leaves)
 mode_unbegun form (Gen seed count) left w rows honest leaves = ((refl, nothing w _ (record { rest = generated_text form seed count; text_is = refl })), untouched rows leaves)
 mode_unbegun form (Trial seed count) left w rows honest leaves = ((refl, tried_without_memory (trial_of seed count) w), untouched rows leaves)
 
@@ -71,6 +73,7 @@ mode_unkept Resume left w = (tt, nothing_done left w)
 mode_unkept (Query what) left w = (tt, nothing_done left w)
 mode_unkept Tally left w = (tt, nothing_done left w)
 mode_unkept Check left w = tt
+mode_unkept (Statement delegator operator) left w = tt
 mode_unkept (Gen seed count) left w = tt
 mode_unkept (Trial seed count) left w = tt
 
@@ -103,6 +106,8 @@ untroubled_command form Tally left left' w w' keeps rows rows' honest' leaves le
     untroubled_tally form left left' w w' rows rows' honest' leaves leaves' faults faults' s ends calm read write keep
 untroubled_command form Check left left' w w' keeps rows rows' honest' leaves leaves' faults faults' s ends calm busy read write keep unkept =
     untroubled_check form left left' w w' s ends.0 calm read write
+untroubled_command form (Statement delegator operator) left left' w w' keeps rows rows' honest' leaves leaves' faults faults' s ends calm busy read write keep unkept =
+    untroubled_statement form delegator operator left left' w w' s ends.0 calm read write
 untroubled_command form (Gen seed count) left left' w w' keeps rows rows' honest' leaves leaves' faults faults' s ends calm busy read write keep unkept =
     let e = ends.0.1 in
     written_to_end (generated_text form seed count) e.0 s e.2 write

@@ -10,11 +10,13 @@ use Rattle.base_decimals.specs.Texts.{number_of}
 use Rattle.run_generated.specs.Writing.{Grows, GrowsInPart, IsFront}
 use Rattle.run_trial.specs.{Summary.Stopped, declared.fault.TrialFault.TrialFault, Trying.IsTrialFault}
 use Rattle.run_trial.specs.declared.fault.TrialFault.TheVariants as trial
+use Rattle.base_types.specs.declared.account.Account.{Account}
 use Rattle.base_bech32.specs.declared.form.Form.{Form, TheVariants.{Hex, Bech32}}
 use Rattle.run_words.specs.declared.mode.{Command.Command, Mode.Mode}
-use Rattle.run_words.specs.declared.mode.Mode.TheVariants.{Replay, Resume, Query, Tally, Check, Gen, Trial}
+use Rattle.run_words.specs.declared.mode.Mode.TheVariants.{Replay, Resume, Query, Tally, Check, Statement, Gen, Trial}
 use Rattle.run_words.specs.Questions.{address_asked, kind_asked}
-use Rattle.run_words.specs.Words.{alone, asking, at_height, begins_with_zero, behind_form, command_of, committing, count_of, generating, height_of, is_bech32, is_keep, is_past, keeping, kept_mode, mode_of, past_of, plain, seed_of, with_input, with_word, with_words}
+use Rattle.run_words.specs.Words.{alone, asking, at_height, begins_with_zero, behind_form, command_of, committing, count_of, generating, height_of, is_bech32, is_keep, is_past, keeping, kept_mode, mode_of, of_pair, past_of, plain, seed_of, with_input, with_word, with_words}
+use Rattle.line_json.specs.Addresses.{account_in, operator_asked}
 use Rattle.line_report.specs.declared.question.Query.{Query as Question}
 use Rattle.run_app.specs.declared.status.Status.{Status}
 use Rattle.run_app.specs.declared.status.Status.TheVariants.{Done, Usage, BadInput, Limit, ReadFault, WriteFault, KeepFault, NoMemory, BadStore, WrongStore, NotFound, NoPast}
@@ -161,6 +163,11 @@ few_asked : (o : Option Question) (m : Mode) → option_map Query o ≡ Some m �
 few_asked (Some what) m e = subst FewIn e tt
 few_asked None m e = absurd cc
 
+few_stated : (delegator operator : Option Account) (m : Mode) → of_pair delegator operator ≡ Some m → HasFewBlocks m
+few_stated (Some delegator) (Some operator) m e = subst FewIn e tt
+few_stated (Some delegator) None m e = absurd cc
+few_stated None operator m e = absurd cc
+
 few_with_word : (name what : List ℕ) (m : Mode) → with_word name what ≡ Some m → HasFewBlocks m
 few_with_word name what m e = by (bytes_eq name (codes "query")) e
   where
@@ -184,11 +191,12 @@ few_generated name seed count m e = by (bytes_eq name (codes "gen")) (bytes_eq n
     by false false f = absurd cc
 
 few_with_words : (form : Form) (name first second : List ℕ) (m : Mode) → with_words form name first second ≡ Some m → HasFewBlocks m
-few_with_words form name first second m e = by (bytes_eq name (codes "query")) e
+few_with_words form name first second m e = by (bytes_eq name (codes "query")) (bytes_eq name (codes "statement")) e
   where
-    by : (b : Bool) → (if b then option_map Query (address_asked form first second) else generating name first second) ≡ Some m → HasFewBlocks m
-    by true f = few_asked (address_asked form first second) m f
-    by false f = few_generated name first second m f
+    by : (b c : Bool) → (if b then option_map Query (address_asked form first second) else (if c then of_pair (account_in form first) (operator_asked form second) else generating name first second)) ≡ Some m → HasFewBlocks m
+    by true c f = few_asked (address_asked form first second) m f
+    by false true f = few_stated (account_in form first) (operator_asked form second) m f
+    by false false f = few_generated name first second m f
 
 few_of_mode : (form : Form) (words : List (List ℕ)) (m : Mode) → mode_of form words ≡ Some m → HasFewBlocks m
 few_of_mode form [] m e = absurd cc

@@ -2,7 +2,8 @@
 use Rattle.std.proofs.Common.{◌≡◌, inl, inr, ℕ, false, List, Option, IfSome, Result, Err, refl, subst, IsErrOf, IsSome}
 use Rattle.base_bech32.specs.declared.form.Form.{Form}
 use Rattle.base_io.specs.{Outside.Rose, Rows.Pair}
-use Rattle.run_words.specs.declared.mode.Mode.{Mode, TheVariants.{Replay, Resume, Query, Tally, Check, Gen, Trial}}
+use Rattle.run_words.specs.declared.mode.Mode.{Mode}
+use Rattle.run_words.specs.declared.mode.Mode.TheVariants.{Replay, Resume, Query, Tally, Check, Statement, Gen, Trial}
 use Rattle.store_history.specs.{declared.{history.History.History, loading.OpenFault.OpenFault}, History.IsHistory}
 use Rattle.store_history.specs.Opened.{OnLoaded, UnlessFailed}
 use Rattle.store_history.specs.declared.loading.OpenFault.TheVariants as unopened
@@ -27,6 +28,7 @@ mode_unopened unopened.Failed Resume left w commits never = ((tt, nothing_done l
 mode_unopened unopened.Failed (Query what) left w commits never = absurd commits
 mode_unopened unopened.Failed Tally left w commits never = absurd commits
 mode_unopened unopened.Failed Check left w commits never = absurd commits
+mode_unopened unopened.Failed (Statement delegator operator) left w commits never = absurd commits
 mode_unopened unopened.Failed (Gen seed count) left w commits never = absurd commits
 mode_unopened unopened.Failed (Trial seed count) left w commits never = absurd commits
 mode_unopened unopened.BadHistory m left w commits never = absurd (never refl)
@@ -35,6 +37,7 @@ mode_unopened unopened.NoMemory Resume left w commits never = ((tt, nothing_done
 mode_unopened unopened.NoMemory (Query what) left w commits never = absurd commits
 mode_unopened unopened.NoMemory Tally left w commits never = absurd commits
 mode_unopened unopened.NoMemory Check left w commits never = absurd commits
+mode_unopened unopened.NoMemory (Statement delegator operator) left w commits never = absurd commits
 mode_unopened unopened.NoMemory (Gen seed count) left w commits never = absurd commits
 mode_unopened unopened.NoMemory (Trial seed count) left w commits never = absurd commits
 
@@ -50,6 +53,7 @@ never_bad_store form Resume left left' w w' rows rows' honest' leaves leaves' s 
 never_bad_store form (Query what) left left' w w' rows rows' honest' leaves leaves' s commits ends unkept e = commits
 never_bad_store form Tally left left' w w' rows rows' honest' leaves leaves' s commits ends unkept e = commits
 never_bad_store form Check left left' w w' rows rows' honest' leaves leaves' s commits ends unkept e = commits
+never_bad_store form (Statement delegator operator) left left' w w' rows rows' honest' leaves leaves' s commits ends unkept e = commits
 never_bad_store form (Gen seed count) left left' w w' rows rows' honest' leaves leaves' s commits ends unkept e = commits
 never_bad_store form (Trial seed count) left left' w w' rows rows' honest' leaves leaves' s commits ends unkept e = commits
 

@@ -2,7 +2,8 @@
 use Rattle.std.proofs.Common.{◌≡◌, ◌⊎◌, inl, inr, true≢false, ℕ, List, Option, Some, None, IfSome, refl, sym, subst, IsSome}
 use Rattle.base_bech32.specs.declared.form.Form.{Form}
 use Rattle.base_io.specs.Rows.{Makes, Pair}
-use Rattle.run_words.specs.declared.mode.Mode.{Mode, TheVariants.{Replay, Resume, Query, Tally, Check, Gen, Trial}}
+use Rattle.run_words.specs.declared.mode.Mode.{Mode}
+use Rattle.run_words.specs.declared.mode.Mode.TheVariants.{Replay, Resume, Query, Tally, Check, Statement, Gen, Trial}
 use Rattle.store_history.proofs.KeepingLemmas.{makes_later, told_back}
 use Rattle.store_resuming.specs.Restored.{AreLoaded, AreStateRows, old_rows_of, rows_of}
 use Rattle.run_app.specs.declared.status.Status.{Status}
@@ -244,5 +245,6 @@ module _ (rows mid : Option (List Pair)) (honest' : Type 0) (same : Makes (λ be
     mode_before form (Query what) commits left left' w w' status ends = absurd commits
     mode_before form Tally commits left left' w w' status ends = absurd commits
     mode_before form Check commits left left' w w' status ends = absurd commits
+    mode_before form (Statement delegator operator) commits left left' w w' status ends = absurd commits
     mode_before form (Gen seed count) commits left left' w w' status ends = absurd commits
     mode_before form (Trial seed count) commits left left' w w' status ends = absurd commits

@@ -8,7 +8,7 @@ use Rattle.store_resuming.proofs.RestoreLemmas.{formats_same}
 use Rattle.store_rows.specs.declared.format.Format.{Format, TheVariants.{First, Second}}
 use Rattle.rule_modules.specs.Chain.{State}
 use Rattle.run_words.specs.declared.mode.{Command.Command, Mode.Mode}
-use Rattle.run_words.specs.declared.mode.Mode.TheVariants.{Replay, Resume, Query, Tally, Check, Gen, Trial}
+use Rattle.run_words.specs.declared.mode.Mode.TheVariants.{Replay, Resume, Query, Tally, Check, Statement, Gen, Trial}
 use Rattle.run_app.specs.declared.status.{LimitKind.TheVariants.{Line, Input, Ratio, Bound}, Status.Status}
 use Rattle.run_app.specs.declared.status.Status.TheVariants.{Done, Usage, BadInput, Limit, ReadFault, WriteFault, KeepFault, NoMemory, BadStore, WrongStore, NotFound, NoPast}
 use Rattle.run_app.specs.{declared.status.LineStop.LineStop, Kept.{AreLeft, AreRowsOf, LeftIn}}
@@ -229,6 +229,7 @@ mode_stops form Resume left left' written written' rows rows' honest' leaves lea
 mode_stops form (Query what) left left' written written' rows rows' honest' leaves leaves' status ends = λ good now may. ends.1.0.stop good now may
 mode_stops form Tally left left' written written' rows rows' honest' leaves leaves' status ends = λ good now may. ends.0.stop good now may
 mode_stops form Check left left' written written' rows rows' honest' leaves leaves' status ends = λ good now may. ends.1.stop now may
+mode_stops form (Statement delegator operator) left left' written written' rows rows' honest' leaves leaves' status ends = λ good now may. ends.1.stop now may
 mode_stops form (Gen seed count) left left' written written' rows rows' honest' leaves leaves' status ends = λ good now may. ends.1.stop now may
 mode_stops form (Trial seed count) left left' written written' rows rows' honest' leaves leaves' status ends = λ good now may. ends.1.stop now may
 
@@ -242,6 +243,7 @@ mode_unbegun form Resume left written rows honest leaves = λ f p storable told.
 mode_unbegun form (Query what) left written rows honest leaves = λ good now may. may
 mode_unbegun form Tally left written rows honest leaves = λ good now may. may
 mode_unbegun form Check left written rows honest leaves = λ good now may. may
+mode_unbegun form (Statement delegator operator) left written rows honest leaves = λ good now may. may
 mode_unbegun form (Gen seed count) left written rows honest leaves = λ good now may. may
 mode_unbegun form (Trial seed count) left written rows honest leaves = λ good now may. may
 

@@ -3,7 +3,7 @@ use Rattle.std.proofs.Common.{◌≡◌, ◌⊎◌, inl, inr, true≢false, ℕ,
 use Rattle.base_bech32.specs.declared.form.Form.{Form}
 use Rattle.base_io.specs.{Outside.Rose, Rows.{Makes, Pair}}
 use Rattle.run_words.specs.declared.mode.{Command.Command, Mode.Mode}
-use Rattle.run_words.specs.declared.mode.Mode.TheVariants.{Replay, Resume, Query, Tally, Check, Gen, Trial}
+use Rattle.run_words.specs.declared.mode.Mode.TheVariants.{Replay, Resume, Query, Tally, Check, Statement, Gen, Trial}
 use Rattle.store_history.specs.{Held.{ShowsLeft, shown}, History.IsHistory}
 use Rattle.store_history.proofs.KeepingLemmas.{holds_still, shown_makes, shown_some, shown_stop, some_shown}
 use Rattle.run_app.specs.declared.{performing.Way.{Way, TheVariants.{Plain, Kept, Past}}, status.Status.Status}
@@ -35,6 +35,7 @@ in_commits keep (Some height) (Query what) = tt
 in_commits keep None (Query what) = tt
 in_commits keep past Tally = tt
 in_commits keep past Check = tt
+in_commits keep past (Statement delegator operator) = tt
 in_commits keep past (Gen seed count) = tt
 in_commits keep past (Trial seed count) = tt
 
@@ -47,6 +48,7 @@ in_few keep (Some height) (Query what) few = tt
 in_few keep None (Query what) few = tt
 in_few keep past Tally few = tt
 in_few keep past Check few = tt
+in_few keep past (Statement delegator operator) few = tt
 in_few keep past (Gen seed count) few = few
 in_few keep past (Trial seed count) few = few
 
@@ -65,6 +67,7 @@ committing_few Resume commits = tt
 committing_few (Query what) commits = absurd commits
 committing_few Tally commits = absurd commits
 committing_few Check commits = absurd commits
+committing_few (Statement delegator operator) commits = absurd commits
 committing_few (Gen seed count) commits = absurd commits
 committing_few (Trial seed count) commits = absurd commits
 
@@ -89,6 +92,7 @@ unopened_stops form Resume left w w' rows rows' honest' leaves leaves' none are 
 unopened_stops form (Query what) left w w' rows rows' honest' leaves leaves' none are = λ good now may. are.stop good now may
 unopened_stops form Tally left w w' rows rows' honest' leaves leaves' none are = λ good now may. are.stop good now may
 unopened_stops form Check left w w' rows rows' honest' leaves leaves' none are = λ good now may. are.stop good now may
+unopened_stops form (Statement delegator operator) left w w' rows rows' honest' leaves leaves' none are = λ good now may. are.stop good now may
 unopened_stops form (Gen seed count) left w w' rows rows' honest' leaves leaves' none are = λ good now may. are.stop good now may
 unopened_stops form (Trial seed count) left w w' rows rows' honest' leaves leaves' none are = λ good now may. are.stop good now may
 
@@ -116,6 +120,7 @@ kept_fits form Resume commits left keeps rows honest' faults faults' calm = reco
 kept_fits form (Query what) commits left keeps rows honest' faults faults' calm = absurd commits
 kept_fits form Tally commits left keeps rows honest' faults faults' calm = absurd commits
 kept_fits form Check commits left keeps rows honest' faults faults' calm = absurd commits
+kept_fits form (Statement delegator operator) commits left keeps rows honest' faults faults' calm = absurd commits
 kept_fits form (Gen seed count) commits left keeps rows honest' faults faults' calm = absurd commits
 kept_fits form (Trial seed count) commits left keeps rows honest' faults faults' calm = absurd commits
 

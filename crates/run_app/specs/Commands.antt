@@ -5,7 +5,7 @@ use Rattle.base_io.specs.Rows.{Pair}
 use Rattle.line_report.specs.declared.question.Query.{Query as Question}
 use Rattle.run_words.specs.declared.mode.Command.{Command}
 use Rattle.run_words.specs.declared.mode.Mode.{Mode}
-use Rattle.run_words.specs.declared.mode.Mode.TheVariants.{Replay, Resume, Query, Tally, Check, Gen, Trial}
+use Rattle.run_words.specs.declared.mode.Mode.TheVariants.{Replay, Resume, Query, Tally, Check, Statement, Gen, Trial}
 use Rattle.store_history.specs.Held.{ShowsLeft, shown}
 use Rattle.store_history.specs.History.{IsHistory}
 use Rattle.run_app.specs.declared.performing.Way.{Way}
@@ -37,6 +37,7 @@ way_in keep past Resume = kept_way keep Resume
 way_in keep past (Query what) = past_way past what
 way_in keep past Tally = Plain Tally
 way_in keep past Check = Plain Check
+way_in keep past (Statement delegator operator) = Plain (Statement delegator operator)
 way_in keep past (Gen seed count) = Plain (Gen seed count)
 way_in keep past (Trial seed count) = Plain (Trial seed count)
 

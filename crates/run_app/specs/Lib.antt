@@ -14,9 +14,11 @@ pub mod Outcome
 pub mod Parts
 pub mod Rejoined
 pub mod Resumes
+pub mod RightStatements
 pub mod Runs
 pub mod Seen
 pub mod Sizes
+pub mod Statements
 pub mod Stops
 pub mod Taking
 pub mod Tallies

@@ -5,7 +5,7 @@ use Rattle.base_io.specs.Outside.{Rose}
 use Rattle.base_io.specs.Rows.{Pair}
 use Rattle.base_roles.specs.declared.refusal.Refusal.{Refusal}
 use Rattle.run_words.specs.declared.mode.Mode.{Mode}
-use Rattle.run_words.specs.declared.mode.Mode.TheVariants.{Replay, Resume, Query, Tally, Check, Gen, Trial}
+use Rattle.run_words.specs.declared.mode.Mode.TheVariants.{Replay, Resume, Query, Tally, Check, Statement, Gen, Trial}
 use Rattle.run_generated.specs.Writing.{generated_text}
 use Rattle.run_trial.specs.Summary.{Stopped}
 use Rattle.run_trial.specs.Trial.{trial_of}
@@ -18,6 +18,7 @@ use Rattle.run_app.specs.Outcome.{IsUntroubled, RunEnds}
 use Rattle.run_app.specs.Seen.{KeeperTold, SinkTold, SourceTold}
 use Rattle.run_app.specs.Ending.{status_of}
 use Rattle.run_app.specs.Resumes.{AsksCalmly, QueryEnds, ResumeEnds, ResumesCalmly}
+use Rattle.run_app.specs.Statements.{StatementEnds, StatesCalmly}
 use Rattle.run_app.specs.Tallies.{TalliesCalmly, TallyEnds}
 use Rattle.run_app.specs.Writes.{Adds, IsWritten, Leaves}
 
@@ -42,6 +43,7 @@ HasFewBlocks Resume = Unit {0}
 HasFewBlocks (Query what) = Unit {0}
 HasFewBlocks Tally = Unit {0}
 HasFewBlocks Check = Unit {0}
+HasFewBlocks (Statement delegator operator) = Unit {0}
 HasFewBlocks (Gen seed count) = count ≤ 100000
 HasFewBlocks (Trial seed count) = count ≤ 100000
 
@@ -52,7 +54,7 @@ ReplayEnds form source sink keeper status =
     ⊎ (IsUnbegun status (AreSome keeper.rows keeper.rows' keeper.honest') × Leaves source sink (λ text. text ≡ []) × AreLeft keeper)
 
 -- What was taken, written and kept at the end of a run: of a replay, of a run that goes on, of a question, of a
--- tally, of statements that are checked, of the generated input, of a trial.
+-- tally, of statements that are checked, of those that are made, of the generated input, of a trial.
 abbrev pub ModeEnds : Form → Mode → SourceTold → SinkTold → KeeperTold → Status → Type 0
 ModeEnds form Replay source sink keeper status = ReplayEnds form source sink keeper status
 ModeEnds form Resume source sink keeper status = ResumeEnds form source sink keeper status
@@ -60,6 +62,8 @@ ModeEnds form (Query what) source sink keeper status = (source.left' ≡ source.
 ModeEnds form Tally source sink keeper status = TallyEnds form source sink keeper status
 ModeEnds form Check source sink keeper status =
     CheckEnds form source sink status × AreUntouched keeper.rows keeper.rows' keeper.leaves keeper.leaves'
+ModeEnds form (Statement delegator operator) source sink keeper status =
+    StatementEnds form delegator operator source sink status × AreUntouched keeper.rows keeper.rows' keeper.leaves keeper.leaves'
 ModeEnds form (Gen seed count) source sink keeper status =
     Leaves source sink (IsWritten (generated_text form seed count) status) × AreUntouched keeper.rows keeper.rows' keeper.leaves keeper.leaves'
 ModeEnds form (Trial seed count) source sink keeper status =
@@ -71,13 +75,14 @@ pub record FitsReplay (keeps : Bool) (rows : Option (List Pair)) (honest' : Type
   pub honest : honest'
   pub quiet : ¬ Rose faults faults'
 
--- An input free of faults: that of the source, of which `check` answers each line, or one whose blocks all follow; what `gen` writes
--- needs none. A replay has a keeper that fits it, and so have a run that goes on, a tally, and a question, which has an answer.
+-- An input free of faults: that of the source, of which `check` answers each line, or one whose blocks all follow, and pay the pair of
+-- `statement`; what `gen` writes needs none. A replay has a keeper that fits it, and so have a run that goes on, a tally, and a question, which has an answer.
 abbrev pub IsUntroubledAt : Form → Mode → Option (List ℕ) → Bool → Option (List Pair) → Type 0 → ℕ → ℕ → Type 0
 IsUntroubledAt form Replay left keeps rows honest' faults faults' = IsUntroubled form None left × FitsReplay keeps rows honest' faults faults'
 IsUntroubledAt form Resume left keeps rows honest' faults faults' = ResumesCalmly form left rows honest' faults faults'
 IsUntroubledAt form (Query what) left keeps rows honest' faults faults' = AsksCalmly form what rows honest' faults faults'
 IsUntroubledAt form Tally left keeps rows honest' faults faults' = TalliesCalmly form left rows honest' faults faults'
 IsUntroubledAt form Check left keeps rows honest' faults faults' = ChecksCalmly form left
+IsUntroubledAt form (Statement delegator operator) left keeps rows honest' faults faults' = StatesCalmly form delegator operator left
 IsUntroubledAt form (Gen seed count) left keeps rows honest' faults faults' = Unit {0}
 IsUntroubledAt form (Trial seed count) left keeps rows honest' faults faults' = (summary : List ℕ) × (trial_of seed count ≡ Ok (Ok summary))

@@ -7,7 +7,7 @@ use Rattle.store_resuming.specs.Restored.{IsStorable, state_rows}
 use Rattle.store_rows.specs.declared.format.Format.{Format}
 use Rattle.rule_modules.specs.Chain.{State}
 use Rattle.run_words.specs.declared.mode.Mode.{Mode}
-use Rattle.run_words.specs.declared.mode.Mode.TheVariants.{Replay, Resume, Query, Tally, Check, Gen, Trial}
+use Rattle.run_words.specs.declared.mode.Mode.TheVariants.{Replay, Resume, Query, Tally, Check, Statement, Gen, Trial}
 use Rattle.run_app.specs.Kept.{AreRowsOf}
 use Rattle.run_app.specs.Lines.{lines_of}
 use Rattle.run_app.specs.Machine.{Answer, Standing, line_answer, report_of}
@@ -82,5 +82,6 @@ ModeStops form Resume left written written' rows honest' leaves leaves' = (f : F
 ModeStops form (Query what) left written written' rows honest' leaves leaves' = LeavesAsBefore honest' leaves leaves'
 ModeStops form Tally left written written' rows honest' leaves leaves' = LeavesAsBefore honest' leaves leaves'
 ModeStops form Check left written written' rows honest' leaves leaves' = LeavesAsBefore honest' leaves leaves'
+ModeStops form (Statement delegator operator) left written written' rows honest' leaves leaves' = LeavesAsBefore honest' leaves leaves'
 ModeStops form (Gen seed count) left written written' rows honest' leaves leaves' = LeavesAsBefore honest' leaves leaves'
 ModeStops form (Trial seed count) left written written' rows honest' leaves leaves' = LeavesAsBefore honest' leaves leaves'

@@ -1,7 +1,7 @@
 -- How a run ends over a keeper that keeps nothing, and so has no rows.
 use Rattle.std.specs.Prelude.{◌≡◌, true, false, []}
 use Rattle.run_words.specs.declared.mode.Mode.{Mode}
-use Rattle.run_words.specs.declared.mode.Mode.TheVariants.{Replay, Resume, Query, Tally, Check, Gen, Trial}
+use Rattle.run_words.specs.declared.mode.Mode.TheVariants.{Replay, Resume, Query, Tally, Check, Statement, Gen, Trial}
 use Rattle.run_app.specs.declared.status.Status.{Status}
 use Rattle.run_app.specs.declared.status.Status.TheVariants.{KeepFault, NoMemory, WrongStore}
 use Rattle.run_app.specs.Seen.{SinkTold, SourceTold}
@@ -26,5 +26,6 @@ ModeUnkept Resume source sink status = FindsNoRows source sink status
 ModeUnkept (Query what) source sink status = FindsNoRows source sink status
 ModeUnkept Tally source sink status = FindsNoRows source sink status
 ModeUnkept Check source sink status = Unit {0}
+ModeUnkept (Statement delegator operator) source sink status = Unit {0}
 ModeUnkept (Gen seed count) source sink status = Unit {0}
 ModeUnkept (Trial seed count) source sink status = Unit {0}

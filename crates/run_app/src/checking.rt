@@ -30,7 +30,7 @@ struct Checker {
 }
 
 /// Why the statement of the line of this number has no bounds.
-fn not_bounded(number: u64, fault: StatementFault) -> Status
+pub(crate) fn not_bounded(number: u64, fault: StatementFault) -> Status
     ensures { result ≡ not_bounded number fault }
 {
     match fault {

@@ -15,6 +15,7 @@ mod recalling;
 mod report;
 mod resuming;
 mod running;
+mod stating;
 mod status;
 mod taking;
 mod tallying;

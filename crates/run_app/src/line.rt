@@ -37,7 +37,7 @@ pub(crate) fn not_read(number: u64, fault: LineFault) -> LineStop
 }
 
 /// Why a genesis starts no chain. It has no items that could be bad.
-fn not_started(number: u64, fault: ChainFault) -> LineStop
+pub(crate) fn not_started(number: u64, fault: ChainFault) -> LineStop
     requires { IsOfGenesis fault }
     ensures { IsNotStarted number fault result }
 {

@@ -58,6 +58,13 @@ fn way_of(command: &Command) -> Way
         Mode::Query(what) => past_way(command.past, what),
         Mode::Tally => Way::Plain(Mode::Tally),
         Mode::Check => Way::Plain(Mode::Check),
+        Mode::Statement {
+            delegator,
+            operator,
+        } => Way::Plain(Mode::Statement {
+            delegator,
+            operator,
+        }),
         Mode::Gen { seed, count } => Way::Plain(Mode::Gen { seed, count }),
         Mode::Trial { seed, count } => Way::Plain(Mode::Trial { seed, count }),
     }

@@ -23,6 +23,7 @@ ghost use Rattle.law_runs.specs.Moments.{MomentsOfRunsDoNotMatter};
 ghost use Rattle.law_runs.specs.Paying.{RunsPayFairly};
 ghost use Rattle.run_trial.specs.Generated.{TrialIsOfItsLines};
 ghost use Rattle.run_app.specs.Rejoined.{RunsGoOn};
+ghost use Rattle.run_app.specs.RightStatements.{StatementsAreRight};
 ghost use Rattle.run_app.specs.Laws.{AnswersAreReplays, LinesAreReplayed};
 ghost use Rattle.run_app.specs.Seen.{by_keeper, by_sink, by_source};
 
@@ -33,6 +34,7 @@ use crate::generating::{write_generated, write_trial};
 use crate::line::{Buffers, LONGEST};
 use crate::performing::perform;
 use crate::resuming::{answer, resume};
+use crate::stating::state_all;
 use crate::status::{LimitKind, Status, status_at_end, status_of, status_of_words};
 use crate::tallying::tally;
 use base_bech32::Form;
@@ -268,29 +270,35 @@ pub(crate) fn carry_out<S: Source, K: Sink, D: Keeper>(
         Mode::Query(what) => answer(form, alloc, sink, keeper, &what),
         Mode::Tally => tally(form, alloc, source, sink, keeper),
         Mode::Check => check_all(form, alloc, source, sink),
+        Mode::Statement {
+            delegator,
+            operator,
+        } => state_all(form, alloc, source, sink, &delegator, &operator),
         Mode::Gen { seed, count } => write_generated(form, alloc, sink, seed, count),
         Mode::Trial { seed, count } => write_trial(alloc, sink, seed, count),
     }
 }
 
-/// Runs the command of these words: `replay`, `resume`, `query` with a kind and perhaps an address, `tally`, `check`, `gen
-/// SEED COUNT` or `trial SEED COUNT`; `replay` and `resume` may stand behind the word `keep`, `query` behind the words `past
-/// HEIGHT`, and each behind the word `bech32`, which stands before all others. Addresses are read and written as forty
-/// hexadecimal digits, and behind `bech32` as their spellings of BIP 173 alone, modules being written by their names.
-/// Nothing else depends on that word: what is kept has no texts of addresses, so either form goes on from a store.
+/// Runs the command of these words: `replay`, `resume`, `query` with a kind and perhaps an address, `tally`, `check`,
+/// `statement DELEGATOR VALIDATOR`, `gen SEED COUNT` or `trial SEED COUNT`; `replay` and `resume` may stand behind the word
+/// `keep`, `query` behind the words `past HEIGHT`, and each behind the word `bech32`, which stands before all others. Addresses
+/// are read and written as forty hexadecimal digits, and behind `bech32` as their spellings of BIP 173 alone, modules being
+/// written by their names. Nothing else depends on that word: what is kept has no texts of addresses, so either form goes on
+/// from a store.
 ///
-/// Of `replay` the first line of the source is a genesis, each further line a block. It begins on a keeper without
-/// rows. What a line leads to is committed, and then its text is written; at the end of the input the report is
-/// written, and the sink flushed. A keeper that keeps nothing has no rows, and there a commit does nothing; all else is
-/// as over any other. `resume` goes on from the keeper's rows, so each of its lines is a block; its lines are numbered
-/// from 1. It writes and commits what the machine does from any sound state that has these rows. Where they are in the
-/// first format of rows, they are brought to the second by a commit before any line; `query` and `tally` read both
-/// formats. `query` writes the lines of that state's report that are of its kind and belong to its address, and commits
-/// nothing; it takes nothing from the source. `tally` counts ballots, of which each line of the source is one, by the
-/// stake of that state, and writes the line of the totals once the source was read to its end; it commits nothing.
-/// `check` reads reward statements, of which each line of the source is one, and writes for each whether it is right; it
-/// does not call the keeper. `gen` writes the generated input, and `trial` the summary of it, which a chain takes block by block; neither takes
-/// anything from the source, or calls the keeper.
+/// Of `replay` the first line of the source is a genesis, each further line a block. It begins on a keeper without rows. What a
+/// line leads to is committed, and then its text is written; at the end of the input the report is written, and the sink
+/// flushed. A keeper that keeps nothing has no rows, and there a commit does nothing; all else is as over any other. `resume`
+/// goes on from the keeper's rows, so each of its lines is a block; its lines are numbered from 1. It writes and commits what
+/// the machine does from any sound state that has these rows. Where they are in the first format of rows, they are brought to
+/// the second by a commit before any line; `query` and `tally` read both formats. `query` writes the lines of that state's
+/// report that are of its kind and belong to its address, and commits nothing; it takes nothing from the source. `tally` counts
+/// ballots, of which each line of the source is one, by the stake of that state, and writes the line of the totals once the
+/// source was read to its end; it commits nothing. `check` reads reward statements, of which each line of the source is one,
+/// and writes for each whether it is right; it does not call the keeper. `statement` applies the lines of a replay, and once
+/// the source was read to its end writes the reward statements of the pair, a line for each time that it was paid; it does not
+/// call the keeper. `gen` writes the generated input, and `trial` the summary of it, which a chain takes block by block;
+/// neither takes anything from the source, or calls the keeper.
 ///
 /// Behind `keep`, each commit also keeps what its rows replaced, in rows of the keeper whose keys begin with the byte 0x60
 /// or 0x61; what is said of rows is then said of the others, which are visible. A history that stands there goes on, and else
@@ -298,24 +306,25 @@ pub(crate) fn carry_out<S: Source, K: Sink, D: Keeper>(
 /// the rows that were visible after the last commit of at most this height. Without these words such rows are those of no
 /// sound state.
 ///
-/// What each status leaves: at `Done` the whole output, flushed; at `Usage` nothing was read or written; at `BadInput`
-/// and `Limit` exactly the texts of the lines before the named one, and of a trial and a tally nothing; at `ReadFault`
-/// those of all lines that were taken with their end, and of a tally nothing; at `WriteFault` all texts before the one
-/// being written and a part of that, or the whole output where the flush failed; at `KeepFault` those of the lines
-/// before the one whose commit failed, and nothing where the rows were not loaded or not brought to the second format;
-/// at `NoMemory` a front of the whole output; at `WrongStore`, `BadStore`, `NotFound` and `NoPast` nothing. What was taken and
-/// written is what the source and the sink tell, where they tell it. The keeper's rows are those of the last committed
-/// line, as they were where there is none (in the second format, once they were brought to it): of the lines whose texts
-/// were written, and at `WriteFault` and `NoMemory` of one line more. A stop at a fault of the keeper may also leave the
-/// rows that were to be committed. `ReadFault`, `WriteFault` and `KeepFault` come only where the count of the source's,
-/// the sink's, the keeper's faults rose in this call, and that count rises at no other status.
+/// What each status leaves: at `Done` the whole output, flushed; at `Usage` nothing was read or written; at `BadInput` and
+/// `Limit` exactly the texts of the lines before the named one, and of a trial, a tally and `statement` nothing; at `ReadFault`
+/// those of all lines that were taken with their end, and of a tally and `statement` nothing; at `WriteFault` all texts before
+/// the one being written and a part of that, or the whole output where the flush failed; at `KeepFault` those of the lines
+/// before the one whose commit failed, and nothing where the rows were not loaded or not brought to the second format; at
+/// `NoMemory` a front of the whole output; at `WrongStore`, `BadStore`, `NotFound` and `NoPast` nothing. What was taken and
+/// written is what the source and the sink tell, where they tell it. The keeper's rows are those of the last committed line, as
+/// they were where there is none (in the second format, once they were brought to it): of the lines whose texts were written,
+/// and at `WriteFault` and `NoMemory` of one line more. A stop at a fault of the keeper may also leave the rows that were to be
+/// committed. `ReadFault`, `WriteFault` and `KeepFault` come only where the count of the source's, the sink's, the keeper's
+/// faults rose in this call, and that count rises at no other status.
 ///
-/// Of `check` the member 130 is also at fault where the entries of a statement are no span, and `Limit` with `Bound` comes
-/// exactly where an operation of its bounds is over.
+/// Of `check` the member 130 is also at fault where the entries of a statement are no span, and of `check` and `statement`
+/// `Limit` with `Bound` comes exactly where an operation of a statement's bounds is over.
 ///
 /// `WrongStore(false)` comes exactly where `replay` loaded rows, and `WrongStore(true)` where `resume`, `query` or
 /// `tally` loaded none, as over a keeper that keeps nothing; `BadStore` exactly where these loaded rows that are those of
-/// no sound state in either format; `NotFound` exactly where a query has an address of which the report has no line.
+/// no sound state in either format; `NotFound` exactly where a query has an address of which the report has no line, or
+/// `statement` a pair that was never paid.
 /// Behind `keep`, `BadStore` also comes, before all of these, exactly where a history in the rows is not of its form. Behind
 /// `past HEIGHT` the order is `WrongStore(true)`; `BadStore` where a history is not of its form or no head stands; `NoPast`
 /// exactly where the height is below the base of the history or above the last height, with these; and `BadStore` where the
@@ -366,6 +375,7 @@ pub fn run<S: Source, K: Sink, D: Keeper>(
     ensures transactions { AllTransactionsEnd }
     ensures rewards { ClaimsAreBracketed }
     ensures payments { RunsPayFairly }
+    ensures statements { StatementsAreRight }
     ensures moments { MomentsOfRunsDoNotMatter }
     ensures shortfalls { ShortfallsAreBounded }
     ensures lines { RunsAreWritten }

@@ -61,7 +61,7 @@ pub enum Status {
     /// The keeper has no rows, where this is true, though the command goes on from rows; or it has rows, though the command
     /// begins on none.
     WrongStore(bool),
-    /// No line is told of this address.
+    /// No line is told of this address, or the pair was never paid.
     NotFound,
     /// The keeper's rows tell nothing of this height: it is not between these, the base of their history and the last
     /// height.

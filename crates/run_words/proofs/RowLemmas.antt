@@ -3,11 +3,11 @@ use Rattle.std.proofs.Common.{◌≡◌, ◌∙◌, ◌⊎◌, inl, inr, refl, a
 use Rattle.std.specs.List.{list_any}
 use Rattle.base_decimals.specs.Texts.{is_number, number_of}
 use Rattle.run_words.specs.{declared.mode.Mode.Mode, Questions.{address_asked, kind_asked, of_account}}
-use Rattle.run_words.specs.Words.{asking, at_height, behind_form, command_at, command_of, count_of, generating, height_of, is_bech32, is_keep, is_option, is_past, keeping, kept_mode, mode_of, past_of, plain, seed_of, with_input, with_word}
+use Rattle.run_words.specs.Words.{asking, at_height, behind_form, command_at, command_of, count_of, generating, height_of, is_bech32, is_keep, is_option, is_past, keeping, kept_mode, mode_of, of_pair, past_of, plain, seed_of, with_input, with_word}
 use Rattle.run_words.proofs.ClapLemmas.{any_of_texts}
 use Rattle.run_words.specs.declared.mode.Mode.TheVariants as mode
 use Rattle.base_bech32.specs.declared.form.Form.{Form, TheVariants.{Hex, Bech32}}
-use Rattle.base_types.specs.{Accounts.account_from, Address.{address_of, bytes_of}}
+use Rattle.base_types.specs.{declared.account.Account.Account, Accounts.account_from, Address.{address_of, bytes_of}}
 use Rattle.line_json.specs.Addresses.{account_in, bytes_in, cons_in, operator_asked}
 use Rattle.line_report.specs.declared.question.Query.TheVariants as question
 
@@ -62,12 +62,13 @@ record IsNoName (w : List ℕ) : Type 0 where
   tallied : bytes_eq w (codes "tally") ≡ false
   checked : bytes_eq w (codes "check") ≡ false
   asked : bytes_eq w (codes "query") ≡ false
+  stated : bytes_eq w (codes "statement") ≡ false
 
 no_name : (w : List ℕ) → is_option w ≡ true → IsNoName w
 no_name [] h = absurd (true≢false (sym h))
 no_name (x ∷ xs) h =
     let is : x ≡ 45 = grind (arith, h) in
-    rw is (record { generated = refl; tried = refl; replayed = refl; resumed = refl; tallied = refl; checked = refl; asked = refl })
+    rw is (record { generated = refl; tried = refl; replayed = refl; resumed = refl; tallied = refl; checked = refl; asked = refl; stated = refl })
 
 -- nor does it tell a form
 no_form : (w : List ℕ) → is_option w ≡ true → is_bech32 w ≡ false
@@ -191,6 +192,23 @@ not_asked form b c q = elim (either_true (is_option b) (list_any is_option (c �
   ]
 ]
 
+-- nor are they of a pair
+no_delegator : (first second : Option Account) → first ≡ None → of_pair first second ≡ None
+no_delegator first second h = rw h refl
+
+no_second : (first second : Option Account) → second ≡ None → of_pair first second ≡ None
+no_second None second h = refl
+no_second (Some a) second h = rw h refl
+
+not_stated : (form : Form) (b c : List ℕ) → list_any is_option (b ∷ c ∷ []) ≡ true → of_pair (account_in form b) (operator_asked form c) ≡ None
+not_stated form b c q = elim (either_true (is_option b) (list_any is_option (c ∷ [])) q) [
+  | inl p ↦ no_delegator (account_in form b) (operator_asked form c) (no_account form b p)
+  | inr r ↦ elim (either_true (is_option c) false r) [
+    | inl p ↦ no_second (account_in form b) (operator_asked form c) (no_operator form c p)
+    | inr t ↦ absurd (true≢false (sym t))
+  ]
+]
+
 refused_options : (form : Form) (words : List (List ℕ)) → list_any is_option words ≡ true → mode_of form words ≡ None
 refused_options form [] h = absurd (true≢false (sym h))
 refused_options form (a ∷ []) h = elim (either_true (is_option a) false h) [
@@ -205,8 +223,10 @@ refused_options form (a ∷ b ∷ []) h = elim (either_true (is_option a) (list_
   ]
 ]
 refused_options form (a ∷ b ∷ c ∷ []) h = elim (either_true (is_option a) (list_any is_option (b ∷ c ∷ [])) h) [
-  | inl p ↦ rw ((no_name a p).asked, (no_name a p).generated, (no_name a p).tried) refl
-  | inr q ↦ both_none (bytes_eq a (codes "query")) (option_map mode.Query (address_asked form b c)) (generating a b c) (ap (option_map mode.Query) (not_asked form b c q)) (not_generated a b c q)
+  | inl p ↦ rw ((no_name a p).asked, (no_name a p).stated, (no_name a p).generated, (no_name a p).tried) refl
+  | inr q ↦ both_none (bytes_eq a (codes "query")) (option_map mode.Query (address_asked form b c)) (cond (bytes_eq a (codes "statement")) (of_pair (account_in form b) (operator_asked form c)) (generating a b c))
+      (ap (option_map mode.Query) (not_asked form b c q))
+      (both_none (bytes_eq a (codes "statement")) (of_pair (account_in form b) (operator_asked form c)) (generating a b c) (not_stated form b c q) (not_generated a b c q))
 ]
 refused_options form (a ∷ b ∷ c ∷ d ∷ more) h = refl
 

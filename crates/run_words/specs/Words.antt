@@ -3,6 +3,8 @@ use Rattle.std.specs.Prelude.{ℕ, ◌^◌, ◌==◌, ◌&&◌, Bool, true, fals
 use Rattle.base_bech32.specs.declared.form.Form.{Form}
 use Rattle.base_bech32.specs.declared.form.Form.TheVariants.{Hex, Bech32}
 use Rattle.base_decimals.specs.Texts.{number_of}
+use Rattle.base_types.specs.declared.account.Account.{Account}
+use Rattle.line_json.specs.Addresses.{account_in, operator_asked}
 use Rattle.run_words.specs.declared.mode.Command.{Command}
 use Rattle.run_words.specs.declared.mode.Mode.{Mode}
 use Rattle.run_words.specs.declared.mode.Mode.TheVariants as mode
@@ -70,14 +72,21 @@ asking form name first second =
     if bytes_eq name (codes "query") then option_map mode.Query (address_asked form first second)
     else None
 
--- the command of this name with two words, of which one may be an address in this form
+-- the statements of a delegator and of an operator, each of which may be a module
+abbrev pub of_pair : Option Account → Option Account → Option Mode
+of_pair (Some delegator) (Some operator) = Some (mode.Statement delegator operator)
+of_pair (Some delegator) None = None
+of_pair None operator = None
+
+-- the command of this name with two words, of which some may be addresses in this form
 abbrev pub with_words : Form → List ℕ → List ℕ → List ℕ → Option Mode
 with_words form name first second =
     if bytes_eq name (codes "query") then option_map mode.Query (address_asked form first second)
-    else generating name first second
+    else (if bytes_eq name (codes "statement") then of_pair (account_in form first) (operator_asked form second)
+    else generating name first second)
 
--- `replay`; `resume`; `tally`; `check`; `query` with a kind; `query` with a kind and an address in this form; `gen SEED COUNT`;
--- `trial SEED COUNT`; and no other words
+-- `replay`; `resume`; `tally`; `check`; `query` with a kind; `query` with a kind and an address in this form;
+-- `statement` with the addresses of a delegator and an operator; `gen SEED COUNT`; `trial SEED COUNT`; and no other words
 abbrev pub mode_of : Form → List (List ℕ) → Option Mode
 mode_of form [] = None
 mode_of form (name ∷ []) = alone name

@@ -4,7 +4,7 @@ use Rattle.base_bech32.specs.declared.form.Form.{Form}
 use Rattle.base_bech32.specs.declared.form.Form.TheVariants.{Hex, Bech32}
 use Rattle.run_words.specs.declared.mode.Command.{Command}
 use Rattle.run_words.specs.declared.mode.Mode.{Mode}
-use Rattle.run_words.specs.declared.mode.Mode.TheVariants.{Replay, Resume, Query, Tally, Check, Gen, Trial}
+use Rattle.run_words.specs.declared.mode.Mode.TheVariants.{Replay, Resume, Query, Tally, Check, Statement, Gen, Trial}
 use Rattle.base_types.specs.declared.account.Account.TheVariants as account
 use Rattle.base_types.specs.declared.account.Module.TheVariants as holder
 use Rattle.line_report.specs.declared.question.Query.TheVariants as question
@@ -55,6 +55,19 @@ pub record Questions : Type 0 where
   pub redelegations : asks (codes "redelegations") user_text ≡ hex (Query (question.Redelegations (account.User user_bytes)))
   pub signing : asks (codes "signing") user_text ≡ hex (Query (question.Signing user_bytes))
   pub of_module : asks (codes "validator") (address_text (codes "1")) ≡ hex (Query (question.Validator (account.Module holder.FeeCollector)))
+
+abbrev pub states : List ℕ → List ℕ → Option Command
+states delegator operator = command_of (codes "statement" ∷ delegator ∷ operator ∷ [])
+
+-- words that ask for statements
+pub record Statements : Type 0 where
+  pub users : states user_text user_text ≡ hex (Statement (account.User user_bytes) (account.User user_bytes))
+  pub of_module : states (address_text (codes "4")) user_text ≡ hex (Statement (account.Module holder.Distribution) (account.User user_bytes))
+  pub by_module : states user_text (address_text (codes "1")) ≡ hex (Statement (account.User user_bytes) (account.Module holder.FeeCollector))
+  pub short : states (codes "00") user_text ≡ None
+  pub short_operator : states user_text (codes "00") ≡ None
+  pub alone : command_of (codes "statement" ∷ user_text ∷ []) ≡ None
+  pub more : command_of (codes "statement" ∷ user_text ∷ user_text ∷ user_text ∷ []) ≡ None
 
 -- words that ask nothing
 pub record NoQuestions : Type 0 where

@@ -1,6 +1,7 @@
-//! The commands, each with what its words say: `replay`, `resume`, `query`, `tally`, `check`, `gen` and `trial`; and before
-//! them the word `bech32`, which tells the form of addresses, the word `keep`, and the word `past` with a height.
+//! The commands, each with what its words say: `replay`, `resume`, `query`, `tally`, `check`, `statement`, `gen` and
+//! `trial`; and before them the word `bech32`, which tells the form of addresses, the word `keep`, and the word `past` with a height.
 use base_bech32::Form;
+use base_types::Account;
 use line_report::Query;
 
 /// What the words ask for: a command, and how it is carried out.
@@ -29,6 +30,13 @@ pub enum Mode {
     Tally,
     /// Reward statements are checked, and whether each is right is written.
     Check,
+    /// The blocks of an input are applied, and the reward statements of a pair are written.
+    Statement {
+        /// Who was paid.
+        delegator: Account,
+        /// Whose validator paid.
+        operator: Account,
+    },
     /// An input is generated and written.
     Gen {
         /// What its draws begin with.

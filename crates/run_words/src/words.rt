@@ -3,8 +3,9 @@ ghost use Rattle.std.specs.Prelude.{◌≡◌, ◌≤◌, length, map, string_by
 ghost use Rattle.std.specs.List.{list_any};
 ghost use Rattle.clap.specs.Simple.{app_of};
 ghost use Rattle.clap.specs.Matches.{first_value, found_of};
+ghost use Rattle.line_json.specs.Addresses.{account_in, operator_asked};
 ghost use Rattle.run_words.specs.Line.{six};
-ghost use Rattle.run_words.specs.Words.{alone, asking, at_height, behind_at, command_at, command_of, committing, generating, is_option, keeping, kept_at, mode_at, past_at, plain, with_word, with_words};
+ghost use Rattle.run_words.specs.Words.{alone, asking, at_height, behind_at, command_at, command_of, committing, generating, is_option, keeping, kept_at, mode_at, of_pair, past_at, plain, with_word, with_words};
 
 use crate::asked::{address_asked, kind_asked};
 use crate::fault::WordsFault;
@@ -13,6 +14,7 @@ use crate::numbers::{count_of, height_of, seed_of};
 use base_bech32::Form;
 use clap::error::ErrorKind;
 use clap::{Arg, ArgMatches};
+use line_json::{account_of_text, operator_asked};
 use std::alloc::{AllocError, Global};
 
 /// The command line: six words by their places, none of which has to be there.
@@ -115,6 +117,18 @@ fn generating(name: &str, seed: &str, count: &str) -> Option<Mode>
     }
 }
 
+/// The statements of a delegator and of an operator, whose addresses these texts spell in this form.
+fn stating(form: Form, delegator: &str, operator: &str) -> Option<Mode>
+    ensures { result ≡ of_pair (account_in form delegator.now) (operator_asked form operator.now) }
+{
+    let delegator = account_of_text(form, delegator)?;
+    let operator = operator_asked(form, operator)?;
+    Some(Mode::Statement {
+        delegator,
+        operator,
+    })
+}
+
 /// The command of this name with one word.
 fn with_word(name: &str, what: &str) -> Option<Mode>
     ensures { result ≡ with_word name.now what.now }
@@ -137,12 +151,14 @@ fn asking(form: Form, name: &str, first: &str, second: &str) -> Option<Mode>
     }
 }
 
-/// The command of this name with two words, of which one may be an address in this form.
+/// The command of this name with two words, of which some may be addresses in this form.
 fn with_words(form: Form, name: &str, first: &str, second: &str) -> Option<Mode>
     ensures { result ≡ with_words form name.now first.now second.now }
 {
     if name == "query" {
         Some(Mode::Query(address_asked(form, first, second)?))
+    } else if name == "statement" {
+        stating(form, first, second)
     } else {
         generating(name, first, second)
     }

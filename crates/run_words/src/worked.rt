@@ -1,6 +1,6 @@
 //! Worked rows, as a function that does nothing: its contract is the rows.
 
-ghost use Rattle.run_words.specs.Worked.{Commands, Histories, NoCommands, NoHistories, NoQuestions, NotSpelled, Questions, Spelled};
+ghost use Rattle.run_words.specs.Worked.{Commands, Histories, NoCommands, NoHistories, NoQuestions, NotSpelled, Questions, Spelled, Statements};
 
 /// Words that are a command, and words that are none.
 pub fn words_by_example()
@@ -8,6 +8,7 @@ pub fn words_by_example()
     ensures none { NoCommands }
     ensures questions { Questions }
     ensures unasked { NoQuestions }
+    ensures statements { Statements }
     ensures spelled { Spelled }
     ensures not_spelled { NotSpelled }
     ensures histories { Histories }

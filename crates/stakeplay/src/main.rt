@@ -1,9 +1,9 @@
-//! `stakeplay STORE WORDS`: replays the accounting of a chain from standard input to standard
-//! output, answers questions about a store, counts ballots over one, checks reward statements, or writes input that it
-//! generates. STORE is the path of a database file, in which the chain's rows are kept, or `-`, and then nothing is kept.
-//! WORDS is `replay`, `resume`, `query` with a kind and perhaps an address, `tally`, `check`, `gen SEED COUNT` or `trial SEED
-//! COUNT`. The word `keep` may stand before `replay` and
-//! `resume`, the words `past HEIGHT` before `query`, and the word `bech32` before all others.
+//! `stakeplay STORE WORDS`: replays the accounting of a chain from standard input to standard output, answers questions
+//! about a store, counts ballots over one, makes and checks reward statements, or writes input that it generates. STORE is
+//! the path of a database file, in which the chain's rows are kept, or `-`, and then nothing is kept. WORDS is `replay`,
+//! `resume`, `query` with a kind and perhaps an address, `tally`, `check`, `statement DELEGATOR OPERATOR`, `gen SEED COUNT`
+//! or `trial SEED COUNT`. The word `keep` may stand before `replay` and `resume`, the words `past HEIGHT` before `query`,
+//! and the word `bech32` before all others.
 #![tactic(auto)]
 
 mod place;

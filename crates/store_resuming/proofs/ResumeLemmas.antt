@@ -1,6 +1,6 @@
 -- A chain out of items: of records that pass the tests, and of no others.
 use Rattle.std.proofs.Common.{◌≡◌, ◌∙◌, ◌^◌, ◌≤◌, Bool, true, false, List, [], Option, Some, None, Result, Ok, Err, refl, sym, ap, subst, IfSome, IfOk, IfErr, IsPermutation}
-use Rattle.base_roles.specs.declared.items.Item.{Item}
+use Rattle.base_roles.specs.declared.{items.Item.Item, no_hooks.NoHooks.NoHooks}
 use Rattle.rule_modules.specs.{Chain.State, Sound.IsSound}
 use Rattle.chain_modules.specs.{declared.modules.Modules.Modules, Kept.{KeptState, Keeps, StandsFor, kept_of}}
 use Rattle.chain_modules.{specs.Marks.AreAtRest, proofs.StandLemmas.stands_same}
@@ -11,7 +11,7 @@ use Rattle.law_records.proofs.{AscendLaws.records_ascend, GatheredLaws.states_ga
 use Rattle.law_records.proofs.{PassLaws.{sound_records_pass, tests_make_sound}, RecordLaws.items_are_listed}
 use Rattle.store_loading.specs.Loaded.{AreLoaded, kept_in}
 use Rattle.store_resuming.proofs.KeepLaws.{keeps_records}
-use Rattle.store_resuming.specs.Resumed.{IsJudged, IsResumeFault, IsStateOf, IsVerdict, resumed}
+use Rattle.store_resuming.specs.Resumed.{IsJudged, IsResumeFault, IsStateOf, IsVerdict, IsResumed}
 use Rattle.chain_whole.specs.{Chained.{Chained, chained}, declared.fault.ChainFault.ChainFault}
 use Rattle.chain_whole.proofs.ChainLemmas.{settled_now}
 use Rattle.chain_whole.specs.declared.fault.ChainFault.TheVariants as fault
@@ -71,11 +71,11 @@ module _ (r : PlainSeen) (ascending : AreAscending r.lists) (coins : AreCoins r)
   }
 
 -- what a chain over them is
-pub is_resumed : {E : Type 0} (r : PlainSeen) (m : Modules E) → AreLoaded r m → chained m m.ground.ctx false ≡ resumed r
-is_resumed r m l = λ i. record {
-  kept = l.kept i;
-  settled = (settled_now m l.settled (ap (λ (k : KeptState). k.view.facts) l.kept) ∙ l.kept) i;
-  spent = false;
+pub is_resumed : (r : PlainSeen) (m : Modules NoHooks) → AreLoaded r m → IsResumed r (chained m m.ground.ctx false)
+is_resumed r m l = record {
+  kept = l.kept;
+  settled = settled_now m l.settled (ap (λ (k : KeptState). k.view.facts) l.kept) ∙ l.kept;
+  unspent = refl;
 }
 
 -- ---- states that have items
@@ -127,17 +127,17 @@ refused_so items why is none = subst (IsResumeFault items) (sym is) (λ p s. som
 
 module _ (items : List Item) (r : PlainSeen) (is : records_in items ≡ Some r) where
   -- a chain of these records stands for each state that has the items
-  pub all_stand : (answer : Result Chained ChainFault) → IfOk answer (λ x. x ≡ resumed r) → IfOk answer (λ x. (p : State) → IsStateOf items p → StandsFor x.kept p)
-  all_stand (Ok x) e = λ p s. subst (λ (y : Chained). StandsFor y.kept p) (sym e) (stands_so items p s r is)
+  pub all_stand : (answer : Result Chained ChainFault) → IfOk answer (IsResumed r) → IfOk answer (λ x. (p : State) → IsStateOf items p → StandsFor x.kept p)
+  all_stand (Ok x) e = λ p s. subst (λ (k : KeptState). StandsFor k p) (sym e.kept) (stands_so items p s r is)
   all_stand (Err why) e = tt
 
   -- and there is such a state
-  pub one_stands : (answer : Result Chained ChainFault) → AreCoins r → AreInMemory r → IfOk answer (λ x. is_sound r ≡ true) → IfOk answer (λ x. x ≡ resumed r)
+  pub one_stands : (answer : Result Chained ChainFault) → AreCoins r → AreInMemory r → IfOk answer (λ x. is_sound r ≡ true) → IfOk answer (IsResumed r)
       → IfOk answer (λ x. (p : State) × IsStateOf items p × StandsFor x.kept p)
   one_stands (Ok x) coins memory passes e = (
     state_of r,
     has_items r (ascend_so items r is) coins memory passes items is,
-    subst (λ (y : Chained). StandsFor y.kept (state_of r)) (sym e) (kept_stands r (ascend_so items r is) coins memory passes),
+    subst (λ (k : KeptState). StandsFor k (state_of r)) (sym e.kept) (kept_stands r (ascend_so items r is) coins memory passes),
   )
   one_stands (Err why) coins memory passes e = tt
 
@@ -149,14 +149,14 @@ module _ (items : List Item) (r : PlainSeen) (is : records_in items ≡ Some r) 
   fault_so (Err fault.NoMemory) memory h = tt
 
 -- a chain of records has no facts, is settled, and not spent
-pub no_facts : (r : PlainSeen) (answer : Result Chained ChainFault) → IfOk answer (λ x. x ≡ resumed r) → IfOk answer (λ x. x.kept.view.facts ≡ [])
-no_facts r (Ok x) e = ap (λ (y : Chained). y.kept.view.facts) e
+pub no_facts : (r : PlainSeen) (answer : Result Chained ChainFault) → IfOk answer (IsResumed r) → IfOk answer (λ x. x.kept.view.facts ≡ [])
+no_facts r (Ok x) e = ap (λ (k : KeptState). k.view.facts) e.kept
 no_facts r (Err why) e = tt
 
-pub is_settled : (r : PlainSeen) (answer : Result Chained ChainFault) → IfOk answer (λ x. x ≡ resumed r) → IfOk answer (λ x. x.settled ≡ x.kept)
-is_settled r (Ok x) e = ap (λ (y : Chained). y.settled) e ∙ sym (ap (λ (y : Chained). y.kept) e)
+pub is_settled : (r : PlainSeen) (answer : Result Chained ChainFault) → IfOk answer (IsResumed r) → IfOk answer (λ x. x.settled ≡ x.kept)
+is_settled r (Ok x) e = e.settled ∙ sym e.kept
 is_settled r (Err why) e = tt
 
-pub is_unspent : (r : PlainSeen) (answer : Result Chained ChainFault) → IfOk answer (λ x. x ≡ resumed r) → IfOk answer (λ x. x.spent ≡ false)
-is_unspent r (Ok x) e = ap (λ (y : Chained). y.spent) e
+pub is_unspent : (r : PlainSeen) (answer : Result Chained ChainFault) → IfOk answer (IsResumed r) → IfOk answer (λ x. x.spent ≡ false)
+is_unspent r (Ok x) e = e.unspent
 is_unspent r (Err why) e = tt

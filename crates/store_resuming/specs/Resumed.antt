@@ -37,6 +37,8 @@ IsVerdict sound (chain.BadGenesis number) = ⊥
 IsVerdict sound chain.BadItems = sound ≡ Ok false
 IsVerdict {E} sound chain.NoMemory = (why : E) × (sound ≡ Err why)
 
--- the chain of records, settled
-abbrev pub resumed : PlainSeen → Chained
-resumed r = record { kept = kept_in r; settled = kept_in r; spent = false }
+-- A chain is that of records, settled.
+pub record IsResumed (r : PlainSeen) (x : Chained) : Type 0 where
+  pub kept : x.kept ≡ kept_in r
+  pub settled : x.settled ≡ kept_in r
+  pub unspent : x.spent ≡ false

@@ -9,7 +9,7 @@ ghost use Rattle.store_soundness.specs.Sound.{is_sound};
 ghost use Rattle.law_records.specs.Coins.{AreCoins};
 ghost use Rattle.law_records.specs.PassLaws.{AreInMemory};
 ghost use Rattle.store_loading.specs.Loaded.{kept_in};
-ghost use Rattle.store_resuming.specs.Resumed.{IsJudged, IsResumeFault, IsStateOf, IsVerdict, resumed};
+ghost use Rattle.store_resuming.specs.Resumed.{IsJudged, IsResumed, IsResumeFault, IsStateOf, IsVerdict};
 
 use crate::telling::{tell_money, tell_numbers};
 use base_roles::Item;
@@ -30,7 +30,7 @@ fn loaded(alloc: Global, records: PlainRecords) -> Result<Chain, ChainFault>
     requires coins { AreCoins (seen records) }
     requires memory { AreInMemory (seen records) }
     requires sound { is_sound (seen records) ≡ true }
-    ensures chain { IfOk result (λ chain. chain ≡ resumed (seen records)) }
+    ensures chain { IfOk result (IsResumed (seen records)) }
     ensures fault { IfErr result (λ fault. fault ≡ ChainFault.NoMemory) }
 {
     let modules = modules_of::<Brand>(alloc, records, Blank::new(1))?;
@@ -56,7 +56,7 @@ fn judged(alloc: Global, records: PlainRecords) -> Result<Chain, ChainFault>
     ensures sound { IfOk result (λ _. is_sound (seen records) ≡ true) }
     ensures coins { AreCoins (seen records) }
     ensures memory { AreInMemory (seen records) }
-    ensures chain { IfOk result (λ chain. chain ≡ resumed (seen records)) }
+    ensures chain { IfOk result (IsResumed (seen records)) }
     ensures fault { IfErr result (IsJudged (seen records)) }
 {
     tell_money(&records);

@@ -10,6 +10,8 @@ mod samples;
 #[cfg(test)]
 mod spelled_tests;
 #[cfg(test)]
+mod statement_tests;
+#[cfg(test)]
 mod tally_tests;
 #[cfg(test)]
 mod tests;

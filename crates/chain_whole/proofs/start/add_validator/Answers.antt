@@ -31,7 +31,7 @@ returns-in-Ok-clause-added g c = λ p k.
     let new : Modules g.row.E.Denot = record { ground = after.g; stakes = record { staking = after.self; unbondings = old.stakes.unbondings; redelegations = old.stakes.redelegations }; hooks = after.hooks } in
     admitted_added old new p k c.in-Ok.ensures.goes_on.undone.ctx refl refl c.args.v.now k.view
     (subst (λ (x : CreateValidator). Leaves (stored hooks_tell.told (new_validator x old.ground.ctx.time) (over old.stakes.staking.staked (held_as old.ground.ctx.params.signed_blocks_window p.hooks) (ground_of old))) new.stakes.staking.staked (hooks_hold new.hooks) (ground_of new) (Ok tt))
-    c.creation_of-m.ensures (stored_apart g.E.Extra.heard g.E.Extra.hears old new _ (Ok tt) c.in-Ok.ensures.told (held_as old.ground.ctx.params.signed_blocks_window p.hooks) (k.shared, k.signings)))
+    c.creation_of-m.ensures (stored_apart g.E.Extra.heard g.E.Extra.hears old new (new_validator c.creation_of-m.result old.ground.ctx.time) (Ok tt) c.in-Ok.ensures.told (held_as old.ground.ctx.params.signed_blocks_window p.hooks) (k.shared, k.signings)))
 
 pub returns-in-Ok-clause-scene : goal.returns-in-Ok-clause-scene
 returns-in-Ok-clause-scene g c =

@@ -20,6 +20,12 @@ returns-in-Gen-clause-keeps g c = rw c.write_generated.ensures.keep refl
 pub returns-in-Trial-clause-keeps : goal.returns-in-Trial-clause-keeps
 returns-in-Trial-clause-keeps g c = rw c.write_trial.ensures.keep refl
 
+pub returns-in-Statement-clause-ends : goal.returns-in-Statement-clause-ends
+returns-in-Statement-clause-ends g c = rw c.in-Statement.is (c.state_all.ensures.ends, untouched _ _)
+
+pub returns-in-Statement-clause-keeps : goal.returns-in-Statement-clause-keeps
+returns-in-Statement-clause-keeps g c = rw c.state_all.ensures.keep refl
+
 pub returns-in-Query-clause-ends : goal.returns-in-Query-clause-ends
 returns-in-Query-clause-ends g c = rw c.in-Query.is (refl, c.answer.ensures.ends)
 
@@ -40,6 +46,9 @@ returns-in-Resume-clause-unkept g c = rw c.in-Resume.is c.resume.ensures.unkept
 
 pub returns-in-Check-clause-unkept : goal.returns-in-Check-clause-unkept
 returns-in-Check-clause-unkept g c = rw c.in-Check.is (λ off. tt)
+
+pub returns-in-Statement-clause-unkept : goal.returns-in-Statement-clause-unkept
+returns-in-Statement-clause-unkept g c = rw c.in-Statement.is (λ off. tt)
 
 pub returns-in-Tally-clause-unkept : goal.returns-in-Tally-clause-unkept
 returns-in-Tally-clause-unkept g c = rw c.in-Tally.is c.tally.ensures.unkept

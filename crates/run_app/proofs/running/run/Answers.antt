@@ -2,7 +2,7 @@ use Rattle.std.proofs.Common.{map, string_bytes}
 use Rattle.run_app.{specs.Commands.way_of, proofs.ModeLemmas.few_blocks}
 use Rattle.run_app.proofs.CommandLemmas.{complete_unasked, ends_unasked, is_of_command, is_of_no_command, kept_unasked, read_unasked, unkept_unasked, write_unasked}
 use Rattle.run_app.proofs.{CountLemmas.{rose_keep, rose_read, rose_write}, RejoinLemmas.runs_go_on}
-use Rattle.run_app.proofs.{SoundLemmas.lines_replayed, StopLemmas.stops_unbegun}
+use Rattle.run_app.proofs.{RightLemmas.statements_right, SoundLemmas.lines_replayed, StopLemmas.stops_unbegun}
 use Rattle.run_app.proofs.{WayLemmas.{untroubled_way, way_commits, way_stops}, WholeLemmas.answers_replayed}
 use Rattle.run_app.proofs.running.run.Goals as goal
 
@@ -75,3 +75,9 @@ returns-in-Ok-clause-continued g c = runs_go_on
 
 pub returns-in-Err-clause-continued : goal.returns-in-Err-clause-continued
 returns-in-Err-clause-continued g c = runs_go_on
+
+pub returns-in-Ok-clause-statements : goal.returns-in-Ok-clause-statements
+returns-in-Ok-clause-statements g c = statements_right
+
+pub returns-in-Err-clause-statements : goal.returns-in-Err-clause-statements
+returns-in-Err-clause-statements g c = statements_right

@@ -1,5 +1,6 @@
-use Rattle.std.proofs.Common.{◌∙◌}
+use Rattle.std.proofs.Common.{sym, subst}
 use Rattle.store_records.specs.Plain.{seen}
+use Rattle.store_resuming.specs.Resumed.{IsResumed}
 use Rattle.store_resuming.proofs.ResumeLemmas.{at_rest, is_resumed, least, most}
 use Rattle.store_resuming.proofs.resuming.loaded.Goals as goal
 
@@ -16,4 +17,4 @@ pub over-requires-clause-order : goal.over-requires-clause-order
 over-requires-clause-order c = c.in_ok-modules.ensures.order
 
 pub returns-clause-chain : goal.returns-clause-chain
-returns-clause-chain c = c.over.ensures ∙ is_resumed (seen c.args.records) c.in_ok-modules.modules c.in_ok-modules.ensures
+returns-clause-chain c = subst (IsResumed (seen c.args.records)) (sym c.over.ensures) (is_resumed (seen c.args.records) c.in_ok-modules.modules c.in_ok-modules.ensures)

@@ -1,7 +1,7 @@
 use Rattle.std.proofs.Common.{sym, subst}
 use Rattle.chain_modules.specs.Kept.{StandsFor}
-use Rattle.chain_whole.specs.Chained.{Chained}
+use Rattle.chain_whole.specs.Chained.{Listened}
 use Rattle.chain_whole.proofs.chain.Chain.validator.Goals as goal
 
 pub returns : goal.returns
-returns g c = λ p s. c.validator_of.ensures p (subst (λ (t : Chained). StandsFor t.kept p) (sym c.self.view_is) s)
+returns g c = λ p s. c.validator_of.ensures p (subst (λ (t : Listened _). StandsFor t.kept p) (sym c.self.view_is) s)

@@ -1,0 +1,4 @@
+pub mod Resting
+pub mod Rightly
+pub mod Unheard
+pub mod Runs

@@ -1,0 +1,3 @@
+pub mod Tracking
+pub mod Stating
+pub mod Worked
