@@ -24,7 +24,7 @@ use Rattle.mod_statement.specs.Answers.{IsFaultOf}
 use Rattle.mod_statement.specs.declared.fault.StatementFault.TheVariants as fault
 use Rattle.mod_tracking.specs.{declared.tracker.Pair.Pair, Stating.{Follows, Taken, block_taken, statements_of, taken}}
 use Rattle.mod_tracking.specs.Tracking.{Tracked, block_followed, untracked}
-use Rattle.rule_machine.specs.{GenesisConditions.start_condition}
+use Rattle.rule_machine.specs.GenesisConditions.{start_condition}
 use Rattle.rule_machine.specs.{Listening.{Hearing, block_heard, genesis_heard, heard_in, hearing}, Machine.step}
 use Rattle.rule_machine.specs.Promises.{facts_of}
 use Rattle.rule_modules.specs.Chain.{State}
@@ -37,8 +37,8 @@ use Rattle.run_app.specs.{Machine.{IsNotStarted, longest, not_applied, not_read}
 use Rattle.run_app.specs.Seen.{sink_told, source_told}
 use Rattle.run_app.specs.Statements.{IsUnled, IsUnstated, IsUntold, LeadsTo, MayStopUnwritten, StatementEnds, StatesAt, StatesCalmly, StatesLast, Stating, TakesTold, applied_so, begun_unless, pair_of, started_so, stated_at, stated_block, stated_from, stated_genesis, stated_in, stated_within, stepped_so, told_more, told_of, validator_of}
 use Rattle.run_app.specs.Taking.{Halts, IsUntaken, Leads, MayStop, MeetsLong, Pauses, TakesAll, TakesPart, UnlessUnwritten}
-use Rattle.run_app.{specs.Writes.Writes, proofs.{DriveLemmas.{told_first, told_rest}, ModeLemmas.{quiet_at, written_to_end}}}
-use Rattle.run_app.proofs.StopLemmas.{ended_first}
+use Rattle.run_app.{specs.Writes.Writes, proofs.DriveLemmas.{told_first, told_rest}}
+use Rattle.run_app.proofs.{ModeLemmas.{quiet_at, written_to_end}, StopLemmas.ended_first}
 
 -- ---- what is told of the pair
 
@@ -209,6 +209,10 @@ module _ (form : Form) (n : ℕ) (line : List ℕ) (p : Option Pair) (g : Genesi
   pub genesis_stops : (status : Status) → IsUntold n (block_taken p None 0 facts now.noted.notes t0) status → IsUnled (stated_genesis n p (genesis_of form line)) status
   genesis_stops status untold =
       genesis_untold form n line p g read facts chain.kept chain.listener.noted none starts start_heard status (subst (λ (d : Result Taken StatementFault). IsUntold n d status) start_told untold)
+
+-- a chain that is settled stands for what it stood for, and its recorder heard the same
+pub settled_states : (old new : Listened Recorded) (t : Tracked) (made : List Statement) (s : Stating) → new.kept ≡ old.kept → new.listener ≡ old.listener → StatesAt (Some old) t made (Some s) → StatesAt (Some new) t made (Some s)
+settled_states old new t made s kept listener at = (rw (kept) at.0, rw (listener) at.1, at.2, at.3)
 
 -- the same, as a chain answers whose recorder's notes are read from one on
 module _ (form : Form) (n : ℕ) (line : List ℕ) (p : Option Pair) (b : Block) (read : block_of form line ≡ Ok b) (s : Stating) (report : BlockReport) (old new : Listened Recorded)

@@ -280,7 +280,7 @@ pub(crate) fn carry_out<S: Source, K: Sink, D: Keeper>(
 }
 
 /// Runs the command of these words: `replay`, `resume`, `query` with a kind and perhaps an address, `tally`, `check`,
-/// `statement DELEGATOR VALIDATOR`, `gen SEED COUNT` or `trial SEED COUNT`; `replay` and `resume` may stand behind the word
+/// `statement DELEGATOR OPERATOR`, `gen SEED COUNT` or `trial SEED COUNT`; `replay` and `resume` may stand behind the word
 /// `keep`, `query` behind the words `past HEIGHT`, and each behind the word `bech32`, which stands before all others. Addresses
 /// are read and written as forty hexadecimal digits, and behind `bech32` as their spellings of BIP 173 alone, modules being
 /// written by their names. Nothing else depends on that word: what is kept has no texts of addresses, so either form goes on
@@ -318,8 +318,8 @@ pub(crate) fn carry_out<S: Source, K: Sink, D: Keeper>(
 /// committed. `ReadFault`, `WriteFault` and `KeepFault` come only where the count of the source's, the sink's, the keeper's
 /// faults rose in this call, and that count rises at no other status.
 ///
-/// Of `check` the member 130 is also at fault where the entries of a statement are no span, and of `check` and `statement`
-/// `Limit` with `Bound` comes exactly where an operation of a statement's bounds is over.
+/// Of `check` the member 130 is also at fault where the entries of a statement are no span, and so of `statement` where those
+/// of a payment are none; of both `Limit` with `Bound` comes exactly where an operation of a statement's bounds is over.
 ///
 /// `WrongStore(false)` comes exactly where `replay` loaded rows, and `WrongStore(true)` where `resume`, `query` or
 /// `tally` loaded none, as over a keeper that keeps nothing; `BadStore` exactly where these loaded rows that are those of

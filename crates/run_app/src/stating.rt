@@ -204,6 +204,8 @@ fn advance(
         Ok(block) => block,
         Err(fault) => return Err(status_of(not_read(number, fault))),
     };
+    // nobody asks what changed since, so tables need not remember it
+    chain.settle();
     let validator = following.validator(chain);
     let note = chain.extra().len();
     let report = match chain.apply_block(alloc, &block) {
