@@ -28,7 +28,9 @@ STORE is a file that keeps the state, made where there is none, or - for none. C
                             ./stakeplay.sh chain.db past 3 query supply
   tally                   reads ballots, a line each, and counts them by the stake of what STORE has
                             ./stakeplay.sh chain.db tally < ballots.jsonl
-  statement WHO OPERATOR  reads what replay reads, and writes a statement of each payment of WHO's rewards by OPERATOR
+  statement DELEGATOR OPERATOR
+                          reads what replay reads, and writes a statement of each payment of the delegator's rewards from
+                          the operator's validator
                             ./stakeplay.sh - statement DELEGATOR OPERATOR < examples/history.jsonl | ./stakeplay.sh - check
   check                   reads reward statements, a line each, and says of each whether it is right
                             ./stakeplay.sh - check < examples/recipes/statements.jsonl

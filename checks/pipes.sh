@@ -8,7 +8,7 @@ cd "$(dirname "$0")/.."
 . checks/program.bash
 need_program pipes
 python3 - "$built" <<'PYTHON'
-import pathlib, subprocess, sys, tempfile
+import json, pathlib, subprocess, sys, tempfile
 
 READ, WRITE = (4, "stakeplay: read fault"), (5, "stakeplay: write fault")
 bad, count = [], 0
@@ -43,14 +43,18 @@ with tempfile.TemporaryDirectory() as room:
     with lines.open("wb") as file:
         subprocess.run([sys.argv[1], "-", "gen", "7", "1500"], stdout=file, check=True)
     replay, gen = ["-", "replay"], ["-", "gen", "7", "3000"]
-    try_readers(replay, lines, start(replay, lines, stdout=-1).communicate()[0])
+    replayed = start(replay, lines, stdout=-1).communicate()[0]
+    paid = json.loads(next(line for line in replayed.splitlines() if b'"kind":"paid"' in line))
+    statement = ["-", "statement", paid["delegator"], paid["validator"]]
+    try_readers(replay, lines, replayed)
     try_readers(gen, no_lines, start(gen, no_lines, stdout=-1).communicate()[0])
-    for words, given in ((replay, lines), (gen, no_lines), (["-", "trial", "7", "5"], no_lines)):
+    for words, given in ((replay, lines), (statement, lines), (gen, no_lines), (["-", "trial", "7", "5"], no_lines)):
         with open("/dev/full", "wb") as full:
             ask(start(words, given, stdout=full), WRITE, f"{words} on a full disk")
         ask(start(["-c", 'exec "$@" >&-', "sh", sys.argv[1], *words], given, executable="/bin/sh"), WRITE, f"{words} with output closed")
-    ask(start(["-c", 'exec "$@" <&-', "sh", sys.argv[1], *replay], lines, executable="/bin/sh"), READ, "a replay with input closed")
-    ask(start(["-c", 'exec "$@" </', "sh", sys.argv[1], *replay], lines, executable="/bin/sh"), READ, "a replay of a folder")
+    for words in (replay, statement):
+        ask(start(["-c", 'exec "$@" <&-', "sh", sys.argv[1], *words], lines, executable="/bin/sh"), READ, f"{words} with input closed")
+        ask(start(["-c", 'exec "$@" </', "sh", sys.argv[1], *words], lines, executable="/bin/sh"), READ, f"{words} of a folder")
 for line in bad:
     print(f"pipes: {line}")
 print(f"pipes: {count} runs, {len(bad)} not as they are to end")

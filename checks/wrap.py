@@ -36,6 +36,12 @@ def wrapped(block: list[str]) -> list[str]:
     return [*lines, line]
 
 
+def is_item(line: str, item: re.Match | None) -> bool:
+    """Whether the line begins an item behind a block: a number does so only in a list of numbers."""
+    found = ITEM.match(line)
+    return found is not None and (found[2] == "- " or item is not None and item[2] != "- ")
+
+
 def laid_out(text: str) -> str:
     """The text of a page, with no line that is too long."""
     lines, out, at, is_code = text.split("\n"), [], 0, False
@@ -47,7 +53,7 @@ def laid_out(text: str) -> str:
             out += block
             continue
         item = ITEM.match(block[0])
-        while at < len(lines) and lines[at].strip() and not ITEM.match(lines[at]):
+        while at < len(lines) and lines[at].strip() and not is_item(lines[at], item):
             depth = len(lines[at]) - len(lines[at].lstrip())
             if item and depth <= len(item[1]) or not item and lines[at].startswith(("|", "#", "!", "```")):
                 break

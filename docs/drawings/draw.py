@@ -81,7 +81,7 @@ BOXES = [
      (590, 226, 210), 1),
     ("chain", "chain_: modules as a chain", GREEN,
      ["chain_whole", "chain_blocks", "chain_transactions", "chain_modules"], (260, 310, 290), 2),
-    ("records", "law_: of records", RED, ["law_records", "law_statements"], (590, 354, 210), 1),
+    ("records", "law_: records, statements", RED, ["law_records", "law_statements"], (590, 354, 210), 1),
     ("mod", "mod_: the modules", GREEN, ["mod_"], (260, 470, 290), 2),
     ("rows", "store_: rows and records", AMBER,
      ["store_items", "store_rows", "store_history", "store_sqlite", "store_records", "store_soundness"], (590, 470, 210), 1),

@@ -6,7 +6,8 @@ One command:  python3 check_statement.py [bech32] statements.jsonl   (`-` for st
 What comes out, for each line:  {"kind":"checked","line":1,"yes":true}
 `yes` is true exactly where the low bound, the high one and the slack are those of the entries, and the reward is at most
 the high bound and, with the slack, at least the low one. A line that is no statement ends the run with status 2, and
-bounds of 10^38 units of 10^-18 or more with status 3. The program's command `check` does the same, proved.
+bounds of 10^38 units of 10^-18 or more with status 3. The program's command `check` does the same, proved, of lines of
+at most 4,194,304 bytes.
 """
 import json
 import re
