@@ -11,6 +11,7 @@ import sys
 RECIPES = {     # by the name of a recipe: the folder of its module, and what it is for
     "tax-sheet": ("sheets", "what an address was paid, paid and lost"),
     "validator-sheet": ("sheets", "what a validator has, earns and loses, block by block"),
+    "refusals": ("sheets", "why messages were refused"),
     "reconcile": ("sheets", "whether accounts agree with what moved between two blocks"),
     "audit": ("sheets", "whether an output adds up"),
     "check-statement": ("statements", "whether reward statements are right"),

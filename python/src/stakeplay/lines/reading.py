@@ -123,7 +123,7 @@ def lines_of(texts: Iterable[bytes]) -> Iterator[Json]:
 def judged(text: bytes, order: Order) -> Json:
     """A line as an object, which has the members of its kind and stands where it may."""
     try:
-        line = json.loads(text)
+        line = json.loads(text.decode())
         is_line = is_shaped(line["kind"], line)
     except (ValueError, TypeError, KeyError, AttributeError, RecursionError):
         is_line = False
@@ -197,7 +197,7 @@ class Input:
             if self.held:
                 line, self.held = self.held, None
             else:
-                line = json.loads(self.file.readline())
+                line = json.loads(self.file.readline().decode())
             if isinstance(line, dict):
                 return line
         except (ValueError, RecursionError):

@@ -272,7 +272,7 @@ def main() -> int:
     """Writes the sheet and the picture."""
     words = arguments()
     asked = Asked([words.operator], is_operator=True, allow_unknown=words.allow_unknown)
-    sheet = Sheet(words.operator, Input(words.input) if words.input else None, asked)
+    sheet = Sheet(words.operator, Input(words.input) if words.input is not None else None, asked)
     for line in lines(words.output):
         sheet.take(line)
     sheet.close()
