@@ -202,7 +202,7 @@ plain = tried_here(sheet)[1].decode().splitlines()
 with tempfile.TemporaryDirectory() as room:
     path = pathlib.Path(room) / "statements"
     for made, more, ending in ((statements, 5, 0), (statements[:1], 4, 0), (statements * 2, 5, 0), ([], 0, 0), (["{}\n"], 0, 2),
-                               ([text.replace('"height":2', '"height":3') for text in statements[:1]], 0, 0)):
+                               ([text.replace('"height":2', '"height":3') for text in statements[:1]], 0, 2)):
         path.write_text("".join(made))
         status, out, err = tried_here([*sheet, f"statements={path}"])
         rows = out.decode().splitlines()

@@ -96,7 +96,7 @@ class Order:
         return self.part == "block" or self.part == "report" and (self.height is not None or self.group != "supply")
 
 
-PLACE = 0  # of the line that is read, from 1
+PLACE = 0  # of the line that was read last, from 1; a recipe reads one output
 
 
 def lines(name: str) -> Iterator[Json]:
@@ -107,20 +107,21 @@ def lines(name: str) -> Iterator[Json]:
 def lines_of(texts: Iterable[bytes]) -> Iterator[Json]:
     """The lines of a whole output that was opened."""
     global PLACE
-    order = Order()
-    for PLACE, text in enumerate(texts, 1):
+    order, place = Order(), 0
+    for place, text in enumerate(texts, 1):
+        PLACE = place
         if not text.endswith(b"\n"):
-            stop(f"line {PLACE}: the output is cut in this line")
-        if PLACE == 1 and text.startswith(GZIP):
+            stop(f"line {place}: the output is cut in this line")
+        if place == 1 and text.startswith(GZIP):
             stop("the output is compressed; `gunzip` gives its lines")
-        yield judged(text, order)
+        yield judged(text, order, place)
     if order.part == "nothing":
         stop("nothing was read")
     if order.is_cut():
-        stop(f"line {PLACE}: the output is cut after this line: the end of its report is missing")
+        stop(f"line {place}: the output is cut after this line: the end of its report is missing")
 
 
-def judged(text: bytes, order: Order) -> Json:
+def judged(text: bytes, order: Order, place: int) -> Json:
     """A line as an object, which has the members of its kind and stands where it may."""
     try:
         line = json.loads(text.decode())
@@ -128,9 +129,9 @@ def judged(text: bytes, order: Order) -> Json:
     except (ValueError, TypeError, KeyError, AttributeError, RecursionError):
         is_line = False
     if not is_line:
-        stop(f"line {PLACE}: this is no line of stakeplay's output")
+        stop(f"line {place}: this is no line of stakeplay's output")
     if fault := order.take(line["kind"], line):
-        stop(f"line {PLACE}: {fault}")
+        stop(f"line {place}: {fault}")
     return line
 
 
