@@ -227,7 +227,7 @@ class Input:
         """Goes on to a line of the output, and holds its block against that of the input."""
         try:
             if kind == "genesis":
-                is_other = not self.genesis or supply_of(self.genesis) != whole(line["supply"])
+                is_other = self.genesis is not None and supply_of(self.genesis) != whole(line["supply"])
             elif kind == "block" and self.has(line["height"]):
                 is_other = plain_time(self.at(line["height"])["time"]) != line["time"]
             elif kind in OUTCOMES and self.has(line["height"]):
@@ -271,10 +271,12 @@ def plain_time(text: str) -> str:
 class Stakes:
     """The stakes of those delegations that are wanted, as their lines tell them, and what slashes take of them.
 
-    A stake of the genesis has no line: it is known from the input, or from its next start on."""
+    A stake of the genesis has no line: it is known from the input, from its next start on, or from a report on, where it
+    is the value of the delegation's shares."""
 
     def __init__(self, wants, given=None):
         self.wants, self.at, self.slashes, self.touched = wants, {}, [], None
+        self.worth = {}     # by validator: the tokens and the shares that a report tells
         for line in given.genesis["delegations"] if given and given.genesis else ():
             if wants(line["delegator"], line["validator"]):
                 self.at.setdefault(line["validator"], {})[line["delegator"]] = int(line["amount"]) * ONE
@@ -302,6 +304,12 @@ class Stakes:
             return [(*part, line["denom"]) for part in told]
         elif kind == "removed":
             self.at.pop(line["validator"], None)
+        elif kind == "validator":
+            self.worth[line["operator"]] = int(line["tokens"]), raw(line["shares"])
+        elif kind == "delegation" and self.wants(line["delegator"], line["validator"]) and line["validator"] in self.worth:
+            tokens, shares = self.worth[line["validator"]]
+            value = raw(line["shares"]) * tokens * ONE // shares
+            self.at.setdefault(line["validator"], {}).setdefault(line["delegator"], value)
         elif kind in OUTCOMES or kind == "block":
             self.slashes, self.touched = [], None
         return []
