@@ -128,7 +128,7 @@ def is_right(s):
             and all(n <= s["reward"].get(d, 0) + slack.get(d, 0) for d, n in low.items()))
 
 
-def main(words, addr=form("[0-9a-f]{40}", lambda digits: user(int(digits, 16)))):
+def main(words, addr=form("[0-9a-f]{40}", lambda digits: user(int(digits, 16))), least=0):
     users, operators = [form(p + "1[" + DIGITS + "]{38}", spelled) if words[0] == "bech32" else addr for p in ("cosmos", "cosmosvaloper")]
     table = [(120, "kind", form("statement")), (121, "delegator", users), (122, "validator", operators), (123, "height", number)]
     table += [(124 + i, name, coins) for i, name in enumerate(("reward", "low", "high", "slack"))]
@@ -144,7 +144,7 @@ def main(words, addr=form("[0-9a-f]{40}", lambda digits: user(int(digits, 16))))
             return n, f"bad shape {fault}" if isinstance(fault, Bad) else "not JSON", 2
         except OverflowError:
             return n, "limit bound", 3
-    if not n:
+    if n < least:
         return n, "nothing was read", 2
 
 
@@ -158,7 +158,7 @@ def command():
     if len(words) > 2 or words[:-1] not in ([], ["bech32"]):
         parser.error("wants the name of a file, and perhaps the word bech32 before it")
     try:
-        line, what, status = main(words) or (0, "", 0)
+        line, what, status = main(words, least=1) or (0, "", 0)
         sys.stdout.flush()
     except BrokenPipeError:
         os.dup2(os.open(os.devnull, os.O_WRONLY), 1)
