@@ -216,7 +216,7 @@ with http.server.ThreadingHTTPServer(("127.0.0.1", 0), Node) as server, contextl
             continue
         tools = [tool for tool in ("sqlite3", "curl") if re.search(rf"^{tool} ", block, re.M) and not shutil.which(tool)]
         if tools:
-            print(f"pages: {page}: passed over, since {' and '.join(tools)} is absent: {block.splitlines()[0]}")
+            print(f"pages: {page}: left out, since {' and '.join(tools)} is absent: {block.splitlines()[0]}")
             continue
         try_block(page, block, row, f"http://localhost:{server.server_port}")
     bad += [f"{row[0]}: no commands begin with {row[1]!r}" for row in left]
