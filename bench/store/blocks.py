@@ -6,12 +6,12 @@
   building   blocks without votes in which that account gives each delegator (250) coins, who delegates them to some
              validators (`--each`, 2)
   filling    blocks of votes alone (`--filled`, none): as many as the window of votes is long fill it
-  usual      `--blocks` (1,000) blocks with a vote of each validator, of which a share (`--missed`, 0.01) is missed, and
-             transactions (5) that pay a fee: 35 in 100 send, 20 delegate, 30 withdraw rewards, 7 undelegate, 4 redelegate
-             and 4 withdraw a commission
+  usual      `--blocks` (1,000) blocks with a vote of each validator, of which a share (`--missed`, 0.01) is missed,
+             and transactions (5) that pay a fee: 35 in 100 send, 20 delegate, 30 withdraw rewards, 7 undelegate,
+             4 redelegate and 4 withdraw a commission
 
-Addresses are bytes of a hash, as those of users are, and a block comes each 6 seconds. OUT gets all lines. Other scripts
-take `Blocks` and ask it for one part after the other."""
+Addresses are bytes of a hash, as those of users are, and a block comes each 6 seconds. OUT gets all lines. Other
+scripts take `Blocks` and ask it for one part after the other."""
 import argparse
 import datetime
 import hashlib

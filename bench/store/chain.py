@@ -5,21 +5,22 @@ The blocks are those of `blocks.py`: 180 votes, of which one in a hundred is mis
 
   windows   [--blocks N] [--windows N ..] [--every N ..]
             A store whose windows of votes are full (100 and 10,000) takes N blocks (200) more by `resume`, beside a C
-            program that makes the same changes of rows in a copy of it by SQLite: a transaction for each commit, prepared
-            statements, a write-ahead log and a sync at each commit; once by `INSERT OR REPLACE`, as in `run.py`, and once by
-            `ON CONFLICT DO UPDATE`, which is the fastest. What both take without blocks is taken off, and then what the same
-            blocks take over `-`. With `--every 1 100` the blocks are also committed by hundreds (`every 100 resume`),
-            and C SQLite makes the changes of a hundred blocks in one transaction. Told are milliseconds a block by the clock
-            and of a processor, the ratios, and the syncs (`strace`, where it is there)
+            program that makes the same changes of rows in a copy of it by SQLite: a transaction for each commit,
+            prepared statements, a write-ahead log and a sync at each commit; once by `INSERT OR REPLACE`, as in
+            `run.py`, and once by `ON CONFLICT DO UPDATE`, which is the fastest. What both take without blocks is taken
+            off, and then what the same blocks take over `-`. With `--every 1 100` the blocks are also committed by
+            hundreds (`every 100 resume`), and C SQLite makes the changes of a hundred blocks in one transaction. Told
+            are milliseconds a block by the clock and of a processor, the ratios, and the syncs (`strace`, if there)
   sizes     [--delegators N ..] [--resumes N]
-            Stores of 250, 25,000 and 250,000 delegators with two delegations each (3 thousand to 1.75 million rows): `resume`
-            without lines, `query supply` and `query account`, beside the C program that reads all rows by their names, and as
-            they stand. Of more than a million rows one run each. Told are seconds of a processor, the most memory, the ratio,
-            and what a row takes of what it takes in the store before
+            Stores of 250, 25,000 and 250,000 delegators with two delegations each (3 thousand to 1.75 million rows):
+            `resume` without lines, `query supply` and `query account`, beside the C program that reads all rows by
+            their names, and as they stand. Of more than a million rows N runs (1). Told are seconds of a processor, the
+            most memory, the ratio, and what a row takes of what it takes in the store before
 
-The least of N runs (5) counts, which go alternately. Stores stand in FOLDER, or where TMPDIR says: on a disk the clock tells
-of its syncs, in /dev/shm of the program. The program is the one that `.ci/run` built, or that the variable STAKEPLAY names.
-Wants a C compiler and Debian's libsqlite3-dev. The largest store takes 250 MB, and its runs up to 2 GB of memory."""
+The least of N runs (5) counts, which go alternately. Stores stand in FOLDER, or where TMPDIR says: on a disk the clock
+tells of its syncs, in /dev/shm of the program. The program is the one that `.ci/run` built, or that the variable
+STAKEPLAY names. Wants a C compiler and Debian's libsqlite3-dev. The largest store takes 250 MB, and its runs up to 2 GB
+of memory; the store with a window of 10,000 takes some minutes to be made."""
 import argparse
 import itertools
 import pathlib
@@ -152,28 +153,32 @@ class Filled:
                 tries[f"{how} {every}"] = lambda how=how, every=every: (self.stock_words(stock, how, every),)
         return tries
 
-    def tell(self, best: dict[str, Figures], stock: str, every: int, first: int) -> None:
-        taken = less(best[f"store {every}"], best["open"])
-        replay = less(best["long"], best["short"])
-        commits = less(best[f"store {every}"], best["open"], (*replay, 0))
-        replaced, updated = (less(best[f"{how} {every}"], best["stock open"]) for how in ("apply", "upsert"))
+    def check(self, every: int) -> None:
         for copy in (f"taken-{every}", f"apply-{every}", f"upsert-{every}"):
             if rows_of(self.work / copy) != self.rows:
                 sys.exit(f"windows: {copy} has other rows than block by block")
+
+    def tell(self, best: dict[str, Figures], stock: str, every: int, first: int) -> None:
+        """What the blocks took where so many are one commit; the clock is compared with the first of these numbers."""
+        self.check(every)
         each = 1000 / self.blocks
-        changed = sum(map(len, together(self.changes, every)))
+        taken, begun = (less(best[f"store {number}"], best["open"]) for number in (every, first))
+        replay = less(best["long"], best["short"])
+        commits = (taken[1] - replay[1]) * each
+        changed = sum(map(len, together(self.changes, every))) / self.blocks
+        print(f"  every {every}: {changed:.0f} rows a block; ", end="")
+        print(f"{taken[0] * each:.2f} ms by the clock, {self.blocks / taken[0]:.0f} blocks a second", end="")
+        print(f" ({begun[0] / taken[0]:.2f} of every {first}); ", end="")
+        print(f"{taken[1] * each:.2f} ms of a processor, {taken[1] / replay[1]:.2f} of the replay over `-`")
+        for how, name in (("apply", "REPLACE"), ("upsert", "DO UPDATE")):
+            other = less(best[f"{how} {every}"], best["stock open"])
+            print(
+                f"    commits {commits:.2f} ms of a processor, C SQLite by {name} {other[1] * each:.2f}: "
+                f"{commits / (other[1] * each):.2f} ({other[0] * each:.2f} ms by the clock)"
+            )
         mine = syncs_of(self.words(every), self.more)
         other = syncs_of(self.stock_words(stock, "apply", every), "/dev/null")
-        print(
-            f"  every {every}: {changed / self.blocks:.0f} rows a block; {taken[0] * each:.2f} ms by the clock "
-            f"({self.blocks / taken[0]:.0f} blocks a second), {taken[1] * each:.2f} of a processor, "
-            f"{taken[1] / replay[1]:.2f} of the replay over `-`;\n"
-            f"    commits {commits[1] * each:.2f} of a processor, C SQLite {replaced[1] * each:.2f} by REPLACE "
-            f"({commits[1] / replaced[1]:.2f}) and {updated[1] * each:.2f} by DO UPDATE ({commits[1] / updated[1]:.2f});\n"
-            f"    {mine} syncs, C SQLite {other} ({replaced[0] * each:.2f} ms by the clock)"
-            + ("" if every == first else f"; {taken[0] / less(best[f'store {first}'], best['open'])[0]:.3f} of every {first} by the clock"),
-            flush=True,
-        )
+        print(f"    {mine} syncs, C SQLite {other}", flush=True)
 
 
 def windows(work: pathlib.Path, stock: str, given: argparse.Namespace) -> None:
@@ -187,15 +192,13 @@ def windows(work: pathlib.Path, stock: str, given: argparse.Namespace) -> None:
             print("windows: the program has no `every`, so each block is a commit", flush=True)
         best = least(given.runs, filled.tries(stock, everies))
         replay = less(best["long"], best["short"])[1] * 1000 / given.blocks
-        print(
-            f"window of {window}, full: {len(filled.rows)} rows, {given.blocks} blocks; over `-` {replay:.2f} ms of a processor "
-            "a block", flush=True,
-        )
+        print(f"window of {window}, full: {len(filled.rows)} rows, {given.blocks} blocks")
+        print(f"  over `-` {replay:.2f} ms of a processor a block", flush=True)
         for every in everies:
             filled.tell(best, stock, every, everies[0])
         took.append(less(best[f"store {everies[0]}"], best["open"])[1])
         if len(took) > 1:
-            print(f"  a stored block takes {took[-1] / took[0]:.2f} of one with a window of {given.windows[0]}", flush=True)
+            print(f"  a stored block takes {took[-1] / took[0]:.2f} of one with a window of {given.windows[0]}")
 
 
 def sizes(work: pathlib.Path, stock: str, given: argparse.Namespace) -> None:
@@ -217,12 +220,13 @@ def sizes(work: pathlib.Path, stock: str, given: argparse.Namespace) -> None:
         }
         best = least(given.resumes if count > LARGE else given.runs, tries)
         named = best["C SQLite by name"][1]
-        print(f"{count} rows:", flush=True)
+        print(f"{count} rows:")
         for name, (_, processor, memory) in best.items():
             row = processor / count
             growth = f", a row {row / before[name]:.2f} of the store before" if name in before else ""
-            print(f"  {name}: {processor:.3f} s, {memory / 1000:.0f} MB, {processor / named:.1f} of C SQLite{growth}", flush=True)
+            print(f"  {name}: {processor:.3f} s, {memory / 1000:.0f} MB, {processor / named:.1f} of C SQLite{growth}")
             before[name] = row
+        sys.stdout.flush()
         renewed(store), renewed(copy)
 
 
