@@ -62,6 +62,9 @@ def task_of(pid):
     if "--crate-name" not in words or words[1] not in ("check", "build"):
         return None
     crate = words[words.index("--crate-name") + 1]
+    of_function = re.search(r"/wrong-body-(\w+)-", where)
+    if of_function:
+        return "edit", crate, of_function[1]
     if "/rt-edit-" in where:
         over = words[words.index("--incremental") + 1] if "--incremental" in words else ""
         number = os.path.basename(over)
