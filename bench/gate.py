@@ -17,6 +17,7 @@
 rt ci says what it has done and not how long it took. So while it runs, its checks are looked at four times a second: a
 check's time begins when it is first seen and ends when it is gone. Of the check that a crate's edits begin with, the files
 that it writes are looked at too: a module's time is that since the one before was written.
+Edits are those of must-fail/ and, where the command tries them, of wrong-bodies/.
 """
 import collections
 import os
