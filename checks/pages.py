@@ -121,7 +121,8 @@ BALLOTS = '{"kind":"ballot","voter":"' + USER + '","option":"yes"}'
 # the page; how the block begins; what comes before it; what a reader puts in; for each command what it is to write, or the
 # status that it ends with and what it is to write; None in place of all of this: it is not run here, since it proves
 ROWS = [
-    ("README.md", "./stakeplay.sh - replay", "", {"bash .ci/run": "true"}, [writes(WHOLE), writes("")]),
+    ("README.md", "./stakeplay.sh - replay", "", {"bash checks/all.sh": "true", "bash .ci/run": "true"},
+     [writes(WHOLE), writes(""), writes("")]),
     ("README.md", "head -n 4", "", {}, [begins, writes(REST), spelled_rewards, finds_right]),
     ("CONTRIBUTING.md", "cd crates/mod_staking", None, {}, None),
     ("docs/FORMATS.md", "sqlite3 FILE", REPLAYED, {"FILE": "chain.db"}, [writes(f"{851:032X}\n")]),

@@ -207,7 +207,7 @@ def end_checks() -> None:
 
 def checked(edit: Edit, texts: dict[str, str]) -> tuple[int, list[str]]:
     """Checks the function in a copy of the crate that has the edit: its status, and the lines that it wrote."""
-    with tempfile.TemporaryDirectory(prefix="wrong-body-") as room:
+    with tempfile.TemporaryDirectory(prefix=f"wrong-body-{edit.path.stem}-") as room:
         for part in PARTS:
             if (CRATES / edit.crate / part).is_dir():
                 shutil.copytree(CRATES / edit.crate / part, pathlib.Path(room, part))
