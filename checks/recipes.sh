@@ -11,7 +11,7 @@ export PYTHONDONTWRITEBYTECODE=1
 need_program recipes
 bad=0
 python3 - "$built" <<'PYTHON' || bad=1
-import collections, contextlib, functools, io, json, pathlib, re, subprocess, sys, tempfile
+import base64, collections, contextlib, csv, functools, hashlib, io, json, pathlib, re, subprocess, sys, tempfile
 
 ONE = 10 ** 18
 FACTS = ("transfer burn allocated pooled period started slashed paid commission "
@@ -102,6 +102,25 @@ for words in commands(str(examples / "life.out"))[:2]:
 # ---- whole outputs, and outputs that are not
 
 
+def try_a_day(begun, rest, day):
+    """A day that was resumed, with its own input: behind the report before it its rows are those of the whole run, and alone
+    nothing is drawn that no line tells."""
+    report = b"".join(line for line in begun.splitlines(keepends=True) if b'"height"' not in line)
+    with tempfile.TemporaryDirectory() as room:
+        path, picture = pathlib.Path(room) / "day.jsonl", pathlib.Path(room) / "day.svg"
+        path.write_bytes(day)
+        for words in (["validator_sheet.py", addresses[1]], ["tax_sheet.py", addresses[2]], ["refusals.py"]):
+            whole = tried_here([*words, str(examples / "life.out"), str(examples / "life.jsonl")])[1].splitlines()
+            status, told, err = tried_here([*words, "-", str(path)], report + rest)
+            rows = [row for row in told.splitlines() if re.match(rb"2024-01-(01T00:00:15|22)", row)]
+            ask(status == 0 and rows and rows == whole[-len(rows):] and all(b":10Z" in row or b":05Z" in row for row in whole[1:-len(rows)]),
+                f"{words[0]} on a day behind a report ended with {status}, and its rows are not those of the whole run: {err}")
+        for given, count in ((rest, 1), (report + rest, 3)):
+            status, _, err = tried_here(["validator_sheet.py", addresses[1], "-", str(path), "--svg", str(picture)], given)
+            stake = re.search(r'stroke="#1f77b4" stroke-width="2" points="([^"]*)"', picture.read_text())
+            ask(status == 0 and len(stake[1].split()) == count, f"the picture of a resumed day has a stake of {stake[1]}: {err}")
+
+
 def tries_over_a_store():
     """What the recipes are to say of a run that was stopped and resumed, of its rest alone, and of answers to questions."""
     given = (examples / "life.jsonl").read_bytes().splitlines(keepends=True)
@@ -116,6 +135,7 @@ def tries_over_a_store():
         answers = {f"the answer to {' '.join(words)}": ran([*store, "query", *words])[1] for words in asked}
     ask(b"".join(line for line in begun.splitlines(keepends=True) if b'"height"' in line) + rest == life,
         "a run of the example that is resumed does not write what one whole run does")
+    try_a_day(begun, rest, b"".join(given[3:]))
     outputs = {"a run that was resumed": (begun + rest, "0"), "the rest of a run": (rest, "3")}
     return ([(words, output, 0, name) for name, (output, first) in outputs.items() for words in commands("-", first, "5")]
             + [(words, answer, 0, name) for name, answer in answers.items() if answer for words in commands("-")
@@ -195,6 +215,41 @@ following = whole_reports["an output and its continuation"][len(life):]
 status, out, err = tried_here(["reconcile.py", "5", "6", "-", *addresses], answer + following)
 ask(status == 0 and b"report report" in out, f"reconcile.py ended with {status} on answers and what follows: {err}")
 
+status, out, err = tried_here(["reconcile.py", "1", "5", str(examples / "life.out"), addresses[2], "7" * 40, "--allow-unknown"])
+ask(status == 0 and f"{'7' * 40},,0,0,0,0,0,0,0,0,0,0," in out.decode(), f"reconcile.py has no row of zeros: {status} {err}")
+
+# ---- each refusal of each run, with its condition and its message
+
+refused = 0
+for end in sorted([*examples.glob("*.end"), *pathlib.Path("cases").glob("*.end"), *spelled.glob("*.end")]):
+    if end.read_text().split()[0] == "0":
+        out, given = end.with_suffix(".out"), end.with_suffix(".jsonl")
+        told = [line for line in map(json.loads, out.read_text().splitlines()) if line["kind"] == "refused"]
+        status, sheet, err = tried_here(["refusals.py", str(out), str(given)])
+        rows = list(csv.DictReader(io.StringIO(sheet.decode())))
+        refused += len(rows)
+        blocks = {line["height"]: line for line in map(json.loads, given.read_text().splitlines()[1:])}
+        for row, line in zip(rows, told):
+            sent = blocks[line["height"]]["txs"][line["tx"]]
+            kind = sent["msgs"][line["msg"]]["kind"] if "msg" in line else ""
+            wanted = (str(line["height"]), str(line["number"]), kind, sent["payer"])
+            ask((row["height"], row["number"], row["message"], row["payer"]) == wanted and row["name"] and row["condition"],
+                f"refusals.py on {out} has the row {row}")
+        ask(status == 0 and len(rows) == len(told), f"refusals.py on {out} ended with {status} and has {len(rows)} rows: {err}")
+ask(refused > 100, f"only {refused} refusals were tried")
+
+# ---- the hashes of a node's transactions, by the places of their lines
+
+with tempfile.TemporaryDirectory() as room:
+    path, data = pathlib.Path(room) / "hashes.csv", recipes / "data/blocks"
+    status, told, err = tried_here(["from_blocks.py", str(data), "--hashes", str(path)])
+    rows = list(csv.DictReader(io.StringIO(path.read_text())))
+    made = {line["height"]: line["txs"] for line in map(json.loads, told.decode().splitlines())}
+    sent = [(str(height), hashlib.sha256(base64.b64decode(text)).hexdigest().upper()) for height in made
+            for text in json.loads((data / f"block_{height}.json").read_text())["result"]["block"]["data"]["txs"]]
+    ask(sent and [(row["height"], row["hash"]) for row in rows] == sent, f"from_blocks.py has other hashes: {status} {err}")
+    ask(all(made[int(row["height"])][int(row["tx"])]["payer"] for row in rows), "a hash is of no transaction of its line")
+
 # ---- statements beside an output
 
 sheet = ["tax_sheet.py", addresses[2], str(examples / "life.out")]
@@ -203,7 +258,7 @@ plain = tried_here(sheet)[1].decode().splitlines()
 with tempfile.TemporaryDirectory() as room:
     path = pathlib.Path(room) / "statements"
     for made, more, ending in ((statements, 5, 0), (statements[:1], 4, 0), (statements * 2, 5, 0), ([], 0, 0), (["{}\n"], 0, 2),
-                               ([text.replace('"height":2', '"height":3') for text in statements[:1]], 0, 0)):
+                               ([text.replace('"height":2', '"height":3') for text in statements[:1]], 0, 2)):
         path.write_text("".join(made))
         status, out, err = tried_here([*sheet, f"statements={path}"])
         rows = out.decode().splitlines()
