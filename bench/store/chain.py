@@ -15,7 +15,8 @@ The blocks are those of `blocks.py`: 180 votes, of which one in a hundred is mis
             Stores of 250, 25,000 and 250,000 delegators with two delegations each (3 thousand to 1.75 million rows):
             `resume` without lines, `query supply` and `query account`, beside the C program that reads all rows by
             their names, and as they stand. Of more than a million rows N runs (1). Told are seconds of a processor, the
-            most memory, the ratio, and what a row takes of what it takes in the store before
+            most memory (22 MB at least, which are Python's), the ratio, and what a row takes of what it takes in the
+            store before
 
 The least of N runs (5) counts, which go alternately. Stores stand in FOLDER, or where TMPDIR says: on a disk the clock
 tells of its syncs, in /dev/shm of the program. The program is the one that `.ci/run` built, or that the variable
