@@ -1,0 +1,73 @@
+"""A page of a run, for those who would rather look: one file that a browser opens without a network.
+
+Who wants it: delegators, operators, auditors, researchers.
+One command:  python3 page.py run.out run.jsonl --exponent uatom=6:ATOM > page.html
+The output is that of `replay`, `resume` or `keep`; `-` is standard input. Behind it stand the files of its input, in
+their order, which have what no line of the output tells (votes, rates, the first stakes), and files of statements.
+With --only the page has what an address was paid, and of the validators those with which it has to do.
+Series are thinned: of each step of blocks the least, the greatest and the last value stay, never an average.
+Status: 0; 1 where the lines do not add up, which the page says too; 2 where the output is cut or of another program.
+"""
+from __future__ import annotations
+
+import argparse
+import re
+import sys
+
+from stakeplay.lines.reading import run as guarded
+from stakeplay.lines.reading import stop
+from stakeplay.pages.document import Document, page
+from stakeplay.pages.given import Given
+from stakeplay.pages.run import Run
+
+
+def exponent(text: str) -> tuple[str, tuple[int, str]]:
+    """`uatom=6:ATOM`: 10^6 units of uatom are one ATOM."""
+    found = re.fullmatch(r"([^=]+)=(\d{1,2}):(\S{1,20})", text)
+    if not found:
+        raise argparse.ArgumentTypeError(f"{text}: this is to be as uatom=6:ATOM")
+    return found[1], (int(found[2]), found[3])
+
+
+def arguments() -> argparse.Namespace:
+    """What the recipe was called with."""
+    parser = argparse.ArgumentParser(description=__doc__, formatter_class=argparse.RawDescriptionHelpFormatter)
+    parser.add_argument("run", metavar="RUN", help="the output of a run, or - for standard input")
+    parser.add_argument("inputs", metavar="INPUT", nargs="*", help="the files of its input, and files of statements")
+    parser.add_argument("--only", metavar="ADDRESS", action="append", default=[], help="an address to show; may stand again")
+    parser.add_argument("--exponent", metavar="DENOM=N:NAME", type=exponent, action="append", default=[],
+                        help="10^N units of DENOM are one NAME")
+    parser.add_argument("--denom", metavar="DENOM", help="whose rewards are drawn; else the bond denomination, if it is allocated")
+    parser.add_argument("--window", metavar="N", type=int, help="the votes of the window, where no genesis tells it")
+    parser.add_argument("--min-signed", metavar="PART", help="the part of them that is to be signed, as 0.05")
+    parser.add_argument("--most-bytes", metavar="N", type=int, default=4_900_000, help="how long the file may be")
+    return parser.parse_args()
+
+
+def named(run: Run) -> None:
+    """Each address that was asked for is one of the run, or the page would tell nothing and look as if it did."""
+    for asked in run.addresses:
+        is_operator = asked.address in run.by_text
+        if not (is_operator or asked.rows.count or asked.staked or asked.unbonding or asked.account[0] or asked.stake > 0):
+            stop(f"no line names {asked.address}")
+
+
+def main() -> int:
+    """Writes the page."""
+    words = arguments()
+    run = Run(words.run, Given(words.inputs), words.only, words.denom, (512, 256))
+    if words.window:
+        run.votes.parameters({"signed_blocks_window": words.window, "min_signed_per_window": words.min_signed or "0.5"})
+    run.read()
+    if not run.moments:
+        stop("there is no block in it, so there is nothing to draw")
+    named(run)
+    sys.stdout.write(page(Document(run, dict(words.exponent)), words.most_bytes))
+    for text in run.wrong:
+        print(f"WRONG {text}", file=sys.stderr)
+    return 1 if run.wrong else 0
+
+
+def command() -> None:
+    """Runs the recipe."""
+    guarded(main)
