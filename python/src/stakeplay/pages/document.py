@@ -10,7 +10,7 @@ import json
 import pathlib
 from typing import Any, Iterable
 
-from stakeplay.lines.reading import ONE, bare, shown
+from stakeplay.lines.reading import ONE, bare, shown, units
 from stakeplay.pages.books import COUNT, LINE, UNITS, Asked, Totals, Validator
 from stakeplay.pages.given import FILES, nanoseconds
 from stakeplay.pages.run import Run
@@ -196,8 +196,11 @@ class Document:
         first = run.starts["account " + asked.address][0]
         self.heights.update(move.height for move in rows)
         coins, place = asked.account
+        pending = Totals()
+        for line, at in asked.pending:
+            pending.add(units(line.get("coins", [])), at, run.height)
         return {
-            "a": asked.address,
+            "a": asked.address, "sum": self.added(pending, "pending", True),
             "balance": [self.figure(str(a), d, place, run.height) for d, a in sorted(coins.items())],
             "staked": [[line["validator"], self.figure(line["shares"], "", at, run.height)] for line, at in asked.staked],
             "pending": [[line["validator"], self.printed(line.get("coins", []), at)] for line, at in asked.pending],

@@ -117,6 +117,7 @@ function showFact(fact) {
 }
 
 /** A figure as a button: its text to be read, all of it where it is pointed at, its place where it is clicked. */
+const bare = denom => value => cut(inCoins(value, denom));
 function figure(fig, what, how) {
   if (!fig) return el("span", {class: "soft", text: "\u2013"});
   const [text, denom, place, height, note] = fig, to = how || (value => cut(inCoins(value, denom)));
@@ -128,7 +129,7 @@ function figure(fig, what, how) {
 }
 const figures = (list, what) => list && list.length
   ? el("div", {class: "stack"}, list.map(fig => el("div", {}, figure(fig, what)))) : el("span", {class: "soft", text: "none"});
-const own = list => (list || []).find(fig => fig[1] === run.denom) || (list || [])[0];
+const own = list => (list || []).find(fig => fig[1] === run.denom);
 
 // ---- series
 
@@ -158,6 +159,12 @@ function curve(name, colour, text, {places = 0, denom = "", style = "step", what
 // ---- axes
 
 function ticksOf(low, high, most, isWhole) {
+  if (isWhole === "rank") {
+    const last = Math.floor(high), step = Math.max(1, Math.ceil((last - low) / most)), first = Math.max(1, Math.ceil(low));
+    const made = [];
+    for (let at = first; at <= last; at += step) made.push(at);
+    return [made, 1];
+  }
   const raw = (high - low) / Math.max(1, most), power = 10 ** Math.floor(Math.log10(raw));
   let step = [1, 2, 2.5, 5, 10].map(part => part * power).find(part => part >= raw * 0.999);
   if (isWhole) step = Math.max(1, Math.ceil(step));
@@ -216,8 +223,7 @@ class Chart {
     this.hidden = new Set();
     this.id = "chart" + Chart.made++;
     this.plot = el("div", {class: "plot"});
-    const more = run.widths ? "" : "";
-    this.node = el("figure", {class: "card", id: this.id}, el("figcaption", {}, el("h3", {}, title, unit && el("span", {text: unit})),
+      this.node = el("figure", {class: "card", id: this.id}, el("figcaption", {}, el("h3", {}, title, unit && el("span", {text: unit})),
       about && el("p", {text: about})), this.plot);
     this.legend = this.legendOf();
     if (!this.curves.length) {
@@ -293,7 +299,7 @@ class Chart {
   }
   draw() {
     const width = Math.max(240, Math.round(this.plot.clientWidth)), top = this.marks ? 20 : 8, bottom = 24, tall = this.tall;
-    const [low, high] = this.range(), [ticks, step] = ticksOf(low, high, 4, this.isWhole);
+    const [low, high] = this.range(), [ticks, step] = ticksOf(low, high, 4, this.isUpside ? "rank" : this.isWhole);
     const texts = ticks.map(value => axisText(value, step)), left = 10 + 7 * Math.max(1, ...texts.map(text => text.length)), right = 8;
     const first = millis(run.from), last = Math.max(millis(run.to), first + 1);
     this.toX = moment => left + (width - left - right) * (Math.max(moment, first) - first) / (last - first);
@@ -346,8 +352,8 @@ class Chart {
       if (parts.some(([low, high]) => low !== high)) {
         const at = index => Math.min(index, x.length - 1);
         const upper = parts.map(([, high, end]) => `${X(at(end))} ${near(this.toY(high))}`), lower = parts.map(([low, , end]) => `${X(at(end))} ${near(this.toY(low))}`);
-        made.append(svg("path", {d: `M${upper.join("L")}L${lower.reverse().join("L")}Z`, fill: part.colour, opacity: .22, stroke: part.colour, "stroke-width": 1, "stroke-linejoin": "round"}));
-        wide = 1.3;
+        made.append(svg("path", {d: `M${upper.join("L")}L${lower.reverse().join("L")}Z`, fill: part.colour, opacity: .28, stroke: part.colour, "stroke-width": 1, "stroke-linejoin": "round"}));
+        wide = 1.1;
       }
       path = "M" + parts.map(([, , end]) => `${X(end)} ${Y(end)}`).join("L");
     }
@@ -566,7 +572,7 @@ function chainPart() {
     new Chart({title: "Fees, block by block", unit: unitOf(denom), fromZero: true, about: "What each block gave to validators and the community pool.",
       curves: [curve("Fees", "var(--c1)", series.fees, {...coinOf, what: "fees of this block"})], hint: "No block gave fees."}),
     new Chart({title: "Given and paid out, added up", unit: unitOf(denom), fromZero: true, about: "Shares of fees, and the whole coins that left of them.", curves: [
-      curve("Given to validators", "var(--c1)", decimals(series.allocated), {...coinOf, style: "step", places: 18, what: "all shares of fees up to this block, the last of them in this line"}),
+      curve("Given to validators", "var(--c1)", series.allocated, {...coinOf, style: "step", places: 18, what: "all shares of fees up to this block, the last of them in this line"}),
       curve("Rewards paid", "var(--c3)", series.rewards, {...coinOf, style: "step", what: "all rewards paid up to this block, the last of them in this line"}),
       curve("Commission paid", "var(--c4)", series.commission, {...coinOf, style: "step", what: "all commission paid up to this block, the last of it in this line"})]}),
     new Chart({title: "Validators", isWhole: true, fromZero: true, about: "How many stand, are bonded, and are jailed.", curves: [
@@ -577,7 +583,6 @@ function chainPart() {
   ].filter(Boolean));
   return part("chain", "The chain", el("div", {}, tiles, pictures, coinTable(coins)));
 }
-const decimals = text => text;
 function rateCurve(rows, bond) {
   if (!rows.length) return null;
   const made = curve("In a year", "var(--c3)", "", {});
@@ -625,11 +630,11 @@ function validatorPart() {
       {name: "Rank", num: true, key: row => row.rank || null, text: row => String(row.rank || ""), cell: row => row.rank ? String(row.rank) : "\u2013"},
       {name: "Operator", key: row => row.a, text: row => row.a, cell: row => el("button", {class: "addr", type: "button", title: row.a, text: short(row.a), onclick: () => open(row, true)})},
       {name: "State", key: row => stateOf(row)[0], text: row => stateOf(row)[0], cell: state},
-      {name: "Tokens", num: true, key: row => row.tokens ? whole(row.tokens[0]) : null, cell: row => figure(row.tokens, "tokens of the validator in the report")},
-      {name: "Part of all", num: true, key: row => row.tokens ? whole(row.tokens[0]) : null, cell: row => row.tokens && total ? share(whole(row.tokens[0]), total) : "\u2013"},
+      {name: `Tokens, ${unitOf(run.bond)}`, num: true, key: row => row.tokens ? whole(row.tokens[0]) : null, cell: row => figure(row.tokens, "tokens of the validator in the report", bare(run.bond))},
+      {name: "Part", num: true, key: row => row.tokens ? whole(row.tokens[0]) : null, cell: row => row.tokens && total ? share(whole(row.tokens[0]), total) : "\u2013"},
       {name: "Rate", num: true, key: row => row.rate ? whole(row.rate[0]) : null, cell: row => figure(row.rate, "commission rate in the report", percent)},
-      {name: "Given", num: true, key: row => own(row.allocated) ? whole(own(row.allocated)[0]) : null, cell: row => figure(own(row.allocated), "shares of fees, added up")},
-      {name: "Paid out", num: true, key: row => own(row.paid) ? whole(own(row.paid)[0]) : null, cell: row => figure(own(row.paid), "rewards paid to its delegators, added up")},
+      {name: `Given, ${unitOf(run.denom)}`, num: true, key: row => own(row.allocated) ? whole(own(row.allocated)[0]) : null, cell: row => figure(own(row.allocated), "shares of fees, added up", bare(run.denom))},
+      {name: "Paid out", num: true, key: row => own(row.paid) ? whole(own(row.paid)[0]) : null, cell: row => figure(own(row.paid), "rewards paid to its delegators, added up", bare(run.denom))},
       {name: "Missed", num: true, key: row => row.missed ? whole(row.missed[0]) : null, cell: row => figure(row.missed, "missed votes of the window in the report", group)},
       {name: "Slashes", num: true, key: row => row.slashes, cell: row => row.slashes ? el("span", {}, String(row.slashes)) : el("span", {class: "soft", text: "0"})},
       {name: "Delegators", num: true, key: row => row.delegators ? whole(row.delegators[0]) : null, cell: row => figure(row.delegators, "delegations in the report", group)},
@@ -649,7 +654,7 @@ function validatorDetail(row, ordered, go) {
   const tiles = el("div", {class: "tiles"},
     tile("Tokens", figure(row.tokens, "tokens of the validator in the report"), row.rank ? `rank ${row.rank}` : null),
     tile("Commission rate", figure(row.rate, "commission rate in the report", percent), row.commission && row.commission.length
-      ? el("span", {}, "not withdrawn ", figure(own(row.commission), "commission in the report")) : "nothing to withdraw"),
+      ? el("span", {}, "not withdrawn ", figure(own(row.commission) || row.commission[0], "commission in the report")) : "nothing to withdraw"),
     tile("Given, added up", figures(row.allocated.slice(0, 3), "shares of fees, added up"), "shares of fees, before commission"),
     tile("Paid to delegators", figures(row.paid.slice(0, 3), "rewards paid to its delegators, added up")),
     tile("Commission paid", figures(row.withdrawn.slice(0, 3), "commission withdrawn, added up")),
@@ -673,13 +678,13 @@ function validatorDetail(row, ordered, go) {
       curves: [curve("Delegators", "var(--c1)", series.delegators, {what: "delegations after this block"})]}),
     new Chart({title: "Commission paid, added up", unit: unitOf(run.denom), fromZero: true, hint: "No commission was paid.", about: "Whole coins that its operator withdrew.",
       curves: [curve("Commission", "var(--c4)", series.withdrawn, {denom: run.denom, what: "all commission paid up to this block, the last of it in this line"})]})]);
-  return el("div", {}, el("div", {class: "bar", style: "margin-top:24px"}, turn("Back", -1), choice, turn("Next", 1)),
+  return el("div", {class: "one"}, el("div", {class: "bar"}, turn("Back", -1), choice, turn("Next", 1)),
     el("h3", {}, address(row.a, true), " ", state(row)), row.cons && el("p", {class: "soft small"}, "consensus address ", address(row.cons, true)),
     tiles, pictures, eventTable(row), visitTable(row));
 }
 const maxOf = text => text ? points(text, 0).v.reduce((most, value) => Math.max(most, Number(value)), 0) : 0;
 const keptOf = (kept, what) => kept.count > kept.rows.length ? `${count(kept.rows.length)} of ${plural(kept.count, what)}: the first and the last ones.` : "";
-const when = at => ({name: "Time", key: row => row[at], cell: row => readable(momentText(row[at]))});
+const when = at => ({name: "Time, UTC", key: row => row[at], text: row => readable(momentText(row[at])), cell: row => readable(momentText(row[at])).replace(" UTC", "")});
 const heightColumn = {name: "Height", num: true, key: row => row[0], text: row => String(row[0]), cell: row => count(row[0])};
 const lineColumn = what => ({name: "Line", num: true, key: row => row[1], cell: row => lineButton(row[1], row[0], what(row))});
 
@@ -720,12 +725,12 @@ function addressDetail(row) {
       row.staked.length ? `at ${plural(row.staked.length, "validator")}` : null),
     tile("Rewards paid", sum("reward", "in", "rewards paid, added up"), total("reward", "in") ? plural(total("reward", "in")[3], "payment") : null),
     total("commission", "in") && tile("Commission paid", sum("commission", "in", "commission paid, added up"), plural(total("commission", "in")[3], "payment")),
-    tile("Pending", figures(row.pending.flatMap(part => part[1]).slice(0, 4), "pending in the report"), "in the report, not paid yet"),
+    tile("Pending", figures(row.sum, "pending in the report, added up"), "in the report, not paid yet"),
     tile("Lost in slashes", sum("slash", "aside", "lost of its stake, each cut to whole units"), total("slash", "aside") ? plural(total("slash", "aside")[3], "slash", "slashes") : null),
     tile("Fees paid", sum("fee", "out", "fees paid, added up"), total("fee", "out") ? plural(total("fee", "out")[3], "fee") : null),
     row.unbonding.length ? tile("Unbonding", el("div", {class: "stack"}, row.unbonding.slice(0, 3).map(part => el("div", {}, figure(part[1], `unbonding until ${part[2]}`)))), plural(row.unbonding.length, "entry", "entries")) : null);
   const pictures = charts([
-    new Chart({title: "Balance", unit: units(series.balance), curves: coinCurves(series.balance, "balance after this block"), fromZero: true, about: "After each block that changed it.", hint: "No line moves its coins."}),
+    new Chart({title: "Balance", unit: units(series.balance), curves: coinCurves(series.balance, "balance after this block"), about: "After each block that changed it.", hint: "No line moves its coins."}),
     new Chart({title: "Stake", unit: unitOf(bond), marks: row.marks.rows, about: "What its rewards are reckoned on; slashes are marks.", hint: "No line tells of a stake.",
       curves: at >= 0 ? [curve("Stake", "var(--c1)", series.stake, {places: 18, denom: bond, what: "stake after this block: the sum of its delegations' stakes"})] : []}),
     new Chart({title: "Paid, added up", unit: units(series.paid), fromZero: true, curves: coinCurves(series.paid, "all rewards and commission paid up to this block"), about: "Rewards and commission.", hint: "It was paid nothing."})]);
@@ -744,11 +749,11 @@ function moveTable(row) {
     : el("div", {class: "stack"}, move[4].map(([value, denom]) => el("div", {}, figure([value, denom, move[1], move[0]], move[2]))));
   const key = side => move => move[3] === side && move[4].length ? BigInt(move[4][0][0]) : null;
   return el("div", {}, el("h3", {text: "Payments, and all that moved"}), el("p", {class: "soft small", text: keptOf(row.rows, "row") || "Out and in are whole coins of the balance; aside is what did not pass through it."}),
-    table({id: "moves", caption: "Payments, and all that moved", rows, filter: "Filter, as reward, fee or an address", columns: [heightColumn, when(0),
+    table({id: "moves", caption: "Payments, and all that moved", rows, filter: "Filter: reward, fee, an address", columns: [when(0),
       {name: "What", key: move => move[2], text: move => move[2], cell: move => el("span", {class: `state ${KINDS[move[2].split(" ")[0]] ?? ""}`, text: move[2].length > 28 ? move[2].slice(0, 28) + MORE : move[2], title: move[2]})},
       {name: "In", num: true, key: key("in"), cell: move => amount("in", move)}, {name: "Out", num: true, key: key("out"), cell: move => amount("out", move)},
       {name: "Aside", num: true, key: key("aside"), cell: move => amount("aside", move)},
-      {name: "With", key: move => move[5], text: move => move[5], cell: move => address(move[5])}, lineColumn(move => move[2])]}));
+      {name: "With", key: move => move[5], text: move => move[5], cell: move => address(move[5])}, heightColumn, lineColumn(move => move[2])]}));
 }
 
 // ---- statements
@@ -765,14 +770,15 @@ function statementPart() {
       svg("rect", {x: X(0), y: 13, width: Math.max(2, X(left) - X(0)), height: 8, rx: 4, fill: "var(--c2)", opacity: .35}),
       svg("rect", {x: X(left), y: 11, width: Math.max(3, X(100) - X(left)), height: 12, rx: 4, fill: colour, opacity: .5}),
       svg("line", {x1: X(at), x2: X(at), y1: 4, y2: 30, stroke: "var(--ink)", "stroke-width": 2.5}));
-    return el("div", {}, el("div", {class: "where"}, el("b", {}, figure([reward, denom, row[1], row[0]], "reward of the statement")),
+    const fig = (value, what) => el("span", {}, figure([value, denom, row[1], row[0]], what, text => cut(inCoins(text, denom), 40)), el("span", {class: "unit", text: " " + unitOf(denom)}));
+    return el("div", {}, el("div", {class: "where"}, el("b", {}, fig(reward, "reward of the statement")),
       el("span", {class: "soft small"}, `height ${count(row[0])}, `, address(row[2]), " at ", address(row[3])),
       el("span", {class: `state ${inside ? "good" : "bad"}`, text: inside ? "within" : "outside"})), drawn,
-      el("div", {class: "where small soft"}, el("span", {}, "at least ", figure([low, denom, row[1], row[0]], "low of the statement"), " less slack ", figure([slack, denom, row[1], row[0]], "slack of the statement")),
-        el("span", {}, "at most ", figure([high, denom, row[1], row[0]], "high of the statement"))));
+      el("div", {class: "where small soft"}, el("span", {}, "at least ", fig(low, "low of the statement"), " less slack ", fig(slack, "slack of the statement")),
+        el("span", {}, "at most ", fig(high, "high of the statement"))));
   };
   return part("statements", "Statements", lead("Each bar goes from the least reward, less the slack of rounding, to the greatest one; the slack is the lighter part, and the line across is the reward that was paid. Bars are as wide as their own bounds lie apart. "
-    + "Whether the bounds are those of the entries is another question: check tells."), el("div", {class: "card bars"}, cells.slice(0, 100).map(bar)),
+    + "Whether the bounds are right is another question, which the command check answers."), el("div", {class: "card bars"}, cells.slice(0, 100).map(bar)),
     cells.length > 100 && el("p", {class: "soft small", text: `The first 100 of ${cells.length} are drawn.`}), el("p", {class: "soft small", text: keptOf(data.statements, "statement")}));
 }
 

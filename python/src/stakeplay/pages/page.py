@@ -55,7 +55,7 @@ def named(run: Run) -> None:
 def main() -> int:
     """Writes the page."""
     words = arguments()
-    run = Run(words.run, Given(words.inputs), words.only, words.denom, (512, 256))
+    run = Run(words.run, Given(words.inputs), words.only, words.denom, (256, 256))
     if words.window:
         run.votes.parameters({"signed_blocks_window": words.window, "min_signed_per_window": words.min_signed or "0.5"})
     run.read()
