@@ -61,7 +61,8 @@ class Node(http.server.BaseHTTPRequestHandler):
 
 def new_room(room):
     """A folder as a reader's, with the program under the name of the script, and the chain's own program beside it."""
-    shutil.copytree(EXAMPLES, room / "examples", ignore=shutil.ignore_patterns("__pycache__"))
+    for folder in (EXAMPLES, "python"):
+        shutil.copytree(folder, room / folder, ignore=shutil.ignore_patterns("__pycache__"))
     bodies = {"stakeplay.sh": f'exec "{PROGRAM}" "$@"', "simd": 'cp "examples/recipes/data/export_$3.json" "$5"'}
     for name, body in bodies.items():
         (room / name).write_text(f"#!/bin/sh\n{body}\n")

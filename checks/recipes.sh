@@ -58,9 +58,10 @@ def tried_here(words, given=b""):
 
 def commands(name, first="0", last="1"):
     """The recipes with their words, for an output that reaches from one height to another."""
-    some = addresses[2:]
-    return [["audit.py", name], ["tax_sheet.py", some[0], name], ["validator_sheet.py", addresses[1], name],
-            ["reconcile.py", first, last, name, *some], ["watch.sh", name]]
+    some, all_known = addresses[2:], "--allow-unknown"
+    return [["audit.py", name], ["tax_sheet.py", some[0], name, all_known],
+            ["validator_sheet.py", addresses[1], name, all_known], ["reconcile.py", first, last, name, *some, all_known],
+            ["watch.sh", name]]
 
 
 def try_all(tries):

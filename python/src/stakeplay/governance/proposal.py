@@ -10,27 +10,37 @@ The rules are those of `Tally` of `x/gov/keeper`, in their order; shares are com
 to 18 places.
 Status: 0 passed, 1 rejected, 2 there is no line of a tally.
 """
+from __future__ import annotations
+
+import argparse
 import json
-import sys
+import re
 from fractions import Fraction
 
+from stakeplay.calling import Parser, opened, run, stop
+
 OPTIONS = ("yes", "abstain", "no", "no_with_veto")
+MEMBERS = {*OPTIONS, "bonded", "kind"}
+DECIMAL = re.compile(r"[0-9]{1,38}(?:\.[0-9]{1,18})?", re.ASCII)
 
 
-def stop(text):
-    print(f"proposal.py: {text}", file=sys.stderr)
-    sys.exit(2)
-
-
-def tally_of(text):
+def tally_of(text: bytes) -> dict[str, Fraction]:
     """The totals of the options, and the bonded tokens."""
     try:
         line = json.loads(text)
-        if line["kind"] == "tally":
-            return {name: Fraction(line[name]) for name in (*OPTIONS, "bonded")}
-    except (ValueError, KeyError, TypeError):
+        if line["kind"] == "tally" and line.keys() == MEMBERS:
+            if all(DECIMAL.fullmatch(line[name]) for name in MEMBERS - {"kind"}):
+                return {name: Fraction(line[name]) for name in MEMBERS - {"kind"}}
+    except (ValueError, KeyError, TypeError, AttributeError, RecursionError):
         pass
     stop("the input is not the line of a tally")
+
+
+def parameter(text: str) -> Fraction:
+    """A parameter among the words, a decimal from 0 to 1."""
+    if not DECIMAL.fullmatch(text) or Fraction(text) > 1:
+        raise argparse.ArgumentTypeError(f"{text!r} is no decimal from 0 to 1")
+    return Fraction(text)
 
 
 def share(part, whole):
@@ -51,11 +61,22 @@ def ended(votes, quorum, threshold, veto):
     return "passed" if share(votes["yes"], cast - votes["abstain"]) > threshold else "rejected"
 
 
-def main(words):
-    if len(words) not in (1, 4):
-        stop("wants the name of a file (`-`: standard input), and perhaps QUORUM THRESHOLD VETO")
-    quorum, threshold, veto = map(Fraction, words[1:] or ("0.334", "0.5", "0.334"))
-    votes = tally_of(sys.stdin.read() if words[0] == "-" else open(words[0], encoding="utf-8").read())
+def arguments() -> argparse.Namespace:
+    """What the recipe was called with."""
+    parser = Parser(__doc__)
+    parser.add_argument("file", metavar="FILE", help="the line of a tally; - for standard input")
+    parser.add_argument("parameters", metavar="QUORUM THRESHOLD VETO", nargs="*", type=parameter, help="of the chain, as decimals")
+    words = parser.words()
+    if len(words.parameters) not in (0, 3):
+        parser.error("wants QUORUM THRESHOLD VETO, or none of them")
+    return words
+
+
+def main() -> int:
+    """Writes how it ends."""
+    words = arguments()
+    quorum, threshold, veto = words.parameters or map(Fraction, ("0.334", "0.5", "0.334"))
+    votes = tally_of(opened(words.file).read())
     cast = sum(votes[name] for name in OPTIONS)
     end = ended(votes, quorum, threshold, veto)
     print(f"turnout {float(share(cast, votes['bonded'])):.6f} of quorum {float(quorum):.6f}; "
@@ -64,5 +85,6 @@ def main(words):
     return 0 if end == "passed" else 1
 
 
-def command():
-    sys.exit(main(sys.argv[1:]))
+def command() -> None:
+    """Runs the recipe."""
+    run(main)

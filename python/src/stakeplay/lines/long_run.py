@@ -5,9 +5,12 @@ One command:  python3 long_run.py 100000 > run.jsonl
 Each block comes five seconds after the one before, and has all votes and two transactions. Every few hundred blocks a
 validator misses votes for a while, is slashed and jailed, and leaves jail. The same number gives the same bytes.
 """
+from __future__ import annotations
+
 import json
-import sys
 from datetime import datetime, timedelta
+
+from stakeplay.calling import Parser, a_count, run
 
 VALIDATORS, DELEGATORS, AUTHORITY = 5, 20, "99" * 20
 START = datetime(2024, 1, 1)
@@ -65,13 +68,17 @@ def block(height, draw):
             "votes": votes, "evidence": [], "txs": txs}
 
 
-def main():
-    draw = 1
+def main() -> None:
+    """Writes the lines."""
+    parser = Parser(__doc__)
+    parser.add_argument("blocks", metavar="BLOCKS", type=a_count, help="how many")
+    blocks, draw = parser.words().blocks, 1
     print(json.dumps(genesis(), separators=(",", ":")))
-    for height in range(1, int(sys.argv[1]) + 1):
+    for height in range(1, blocks + 1):
         draw = (draw * 6364136223846793005 + 1442695040888963407) % 2 ** 64
         print(json.dumps(block(height, draw >> 16), separators=(",", ":")))
 
 
-def command():
-    main()
+def command() -> None:
+    """Runs the recipe."""
+    run(main)

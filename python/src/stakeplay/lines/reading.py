@@ -1,16 +1,20 @@
-"""Reads the output lines of stakeplay for the recipes of this folder, and judges whether they are a whole output.
+"""Reads the output lines of stakeplay, and judges whether they are a whole output.
 
-`lines(name)` gives the lines as objects, one by one. It ends the program with status 2 and a sentence where a line is
-cut or of another program, where a block does not follow the one before, or where the end is missing. After a report
-the next blocks and their report may stand, and before the first line of a run or alone an answer: lines of the
-report's kinds.
+`lines(name)` gives the lines as objects, one by one. It raises a `Fault` where a line is cut or of another program,
+where a block does not follow the one before, or where the end is missing. After a report the next blocks and their
+report may stand, and before the first line of a run or alone an answer: lines of the report's kinds.
 """
-import json
-import os
-import sys
+from __future__ import annotations
 
+import json
+from typing import Any, Callable, Iterable, Iterator, NoReturn
+
+from stakeplay import calling
+from stakeplay.addresses import MODULES, bare  # noqa: F401
+from stakeplay.calling import GZIP, opened, stop
+
+Json = dict[str, Any]
 ONE = 10 ** 18
-MODULES = "fee_collector", "bonded_tokens_pool", "not_bonded_tokens_pool", "distribution"
 COLLECTOR, BONDED, NOT_BONDED, DISTRIBUTION = MODULES
 
 FACTS = {
@@ -34,21 +38,6 @@ MEMBERS = {kind: frozenset(("kind " + names).split()) for kind, names in REPORT.
 MEMBERS |= {kind: frozenset(("height kind " + names).split()) for kind, names in (FACTS | OUTCOMES).items()}
 MEMBERS |= {"genesis": frozenset(("height", "kind", "supply")), "block": frozenset(("height", "kind", "time"))}
 MORE = {"refused": ({"msg"}, {"msg", "until"}, {"msg", "member"}, {"msg", "a", "b", "c", "over"}), "pending": ({"limit"},)}
-
-
-def stop(text):
-    """Says why no more can be told, and ends with status 2."""
-    sys.stdout.flush()
-    print(f"{os.path.basename(sys.argv[0])}: {text}", file=sys.stderr)
-    sys.exit(2)
-
-
-def opened(name):
-    """The file of that name; standard input for `-`."""
-    try:
-        return sys.stdin.buffer if name == "-" else open(name, "rb")
-    except OSError as fault:
-        stop(f"{name}: {fault.strerror}")
 
 
 def is_shaped(kind, line):
@@ -110,42 +99,54 @@ class Order:
 PLACE = 0  # of the line that is read, from 1
 
 
-def lines(name):
+def lines(name: str) -> Iterator[Json]:
     """The lines of a whole output, each as an object."""
+    return lines_of(opened(name))
+
+
+def lines_of(texts: Iterable[bytes]) -> Iterator[Json]:
+    """The lines of a whole output that was opened."""
     global PLACE
     order = Order()
-    for PLACE, text in enumerate(opened(name), 1):
+    for PLACE, text in enumerate(texts, 1):
         if not text.endswith(b"\n"):
             stop(f"line {PLACE}: the output is cut in this line")
-        line = json.loads(text)
-        kind = line["kind"]
-        if not is_shaped(kind, line):
-            raise ValueError(kind)
-        if fault := order.take(kind, line):
-            stop(f"line {PLACE}: {fault}")
-        yield line
+        if PLACE == 1 and text.startswith(GZIP):
+            stop("the output is compressed; `gunzip` gives its lines")
+        yield judged(text, order)
     if order.part == "nothing":
         stop("nothing was read")
     if order.is_cut():
         stop(f"line {PLACE}: the output is cut after this line: the end of its report is missing")
 
 
-def run(main):
-    """Runs a recipe; a line in which it does not find what the program writes there is of another program."""
+def judged(text: bytes, order: Order) -> Json:
+    """A line as an object, which has the members of its kind and stands where it may."""
     try:
-        sys.exit(main())
-    except (ValueError, TypeError, KeyError, AttributeError, ArithmeticError, RecursionError):
+        line = json.loads(text)
+        is_line = is_shaped(line["kind"], line)
+    except (ValueError, TypeError, KeyError, AttributeError, RecursionError):
+        is_line = False
+    if not is_line:
         stop(f"line {PLACE}: this is no line of stakeplay's output")
-    except BrokenPipeError:
-        os.dup2(os.open(os.devnull, os.O_WRONLY), 1)
-        sys.exit(2)
+    if fault := order.take(line["kind"], line):
+        stop(f"line {PLACE}: {fault}")
+    return line
 
 
-def bare(address):
-    """What an operator's address and that of its account have in common: all of it in hexadecimal digits; of a
-    spelling of BIP 173 what is between its prefix and the six last letters, which check the others."""
-    prefix, _, letters = address.rpartition("1")
-    return letters[:-6] if prefix.startswith("cosmos") else address
+def run(main: Callable[[], int | None]) -> NoReturn:
+    """Runs a recipe; a line in which it does not find what the program writes there is of another program."""
+    global PLACE
+    PLACE = 0
+
+    def judged_main() -> int | None:
+        try:
+            return main()
+        except (ValueError, TypeError, KeyError, AttributeError, ArithmeticError, RecursionError):
+            if not PLACE:
+                raise
+            stop(f"line {PLACE}: this is no line of stakeplay's output")
+    calling.run(judged_main)
 
 
 def whole(coins):
@@ -172,27 +173,98 @@ def shown(number):
 
 
 class Input:
-    """The input beside its output, read in step with it, one line at a time."""
+    """The input beside its output, read in step with it, one line at a time: of `replay`, or of `resume`, whose first
+    line is a block and which has no genesis."""
 
-    def __init__(self, name):
-        self.name, self.file, self.block = name, opened(name), {"height": -1}
-        self.genesis = self.next_line()
-        if self.genesis.get("kind") != "genesis":
-            stop(f"{name}: this is no input of `replay`")
+    def __init__(self, name: str):
+        self.name, self.file, self.held = name, opened(name), None
+        first = self.next_line(f"{name}: this is no input of `replay` or `resume`")
+        self.genesis = first if is_genesis(first) else None
+        self.block: Json = {"height": -1}
+        if first.get("kind") == "block" and isinstance(first.get("height"), int):
+            self.held = first
+        elif not self.genesis:
+            stop(f"{name}: this is no input of `replay` or `resume`")
+        self.first = 0 if self.genesis else first["height"]
 
-    def next_line(self):
+    def differs(self) -> NoReturn:
+        """Says that the two do not belong together."""
+        stop(f"{self.name}: this is not the input of that output")
+
+    def next_line(self, otherwise: str = "") -> Json:
+        """The next line, which has to be there."""
         try:
-            return json.loads(self.file.readline())
-        except ValueError:
-            stop(f"{self.name}: this is not the input of that output")
+            if self.held:
+                line, self.held = self.held, None
+            else:
+                line = json.loads(self.file.readline())
+            if isinstance(line, dict):
+                return line
+        except (ValueError, RecursionError):
+            pass
+        stop(otherwise) if otherwise else self.differs()
 
-    def at(self, height):
+    def has(self, height: int) -> bool:
+        """Whether the input may have a block: one of `resume` has none of the heights before its first line."""
+        return height >= self.first
+
+    def transaction(self, line: Json) -> Json:
+        """The transaction of an outcome."""
+        return self.at(line["height"])["txs"][line["tx"]]
+
+    def at(self, height: int) -> Json:
         """The block of a height; heights are asked for in ascending order."""
         while self.block["height"] < height:
             self.block = self.next_line()
+            if not isinstance(self.block.get("height"), int) or not isinstance(self.block.get("txs"), list):
+                self.differs()
         if self.block["height"] != height:
-            stop(f"{self.name}: this is not the input of that output")
+            self.differs()
         return self.block
+
+    def take(self, kind: str, line: Json) -> None:
+        """Goes on to a line of the output, and holds its block against that of the input."""
+        try:
+            if kind == "genesis":
+                is_other = not self.genesis or supply_of(self.genesis) != whole(line["supply"])
+            elif kind == "block" and self.has(line["height"]):
+                is_other = plain_time(self.at(line["height"])["time"]) != line["time"]
+            elif kind in OUTCOMES and self.has(line["height"]):
+                is_other = line.get("msg", -1) >= len(self.transaction(line)["msgs"])
+            else:
+                is_other = False
+            if is_other:
+                self.differs()
+        except (KeyError, TypeError, ValueError, IndexError, AttributeError):
+            self.differs()
+
+
+def is_genesis(line: Json) -> bool:
+    """Whether a line has what is read of a genesis."""
+    try:
+        supply_of(line)
+        for validator in line["validators"]:
+            float(validator["rate"]), validator["operator"], validator["cons"]
+        for delegation in line["delegations"]:
+            delegation["delegator"], delegation["validator"]
+        return line["kind"] == "genesis" and int(line["params"]["power_reduction"]) + int(line["params"]["max_validators"]) > 0
+    except (KeyError, TypeError, ValueError, AttributeError):
+        return False
+
+
+def supply_of(genesis: Json) -> dict[str, int]:
+    """The coins that a genesis has of each denomination."""
+    found = {genesis["params"]["bond_denom"]: sum(int(line["amount"]) for line in genesis["delegations"])}
+    for account in genesis["accounts"]:
+        for coin in account["coins"]:
+            found[coin["denom"]] = found.get(coin["denom"], 0) + int(coin["amount"])
+    return {denom: amount for denom, amount in found.items() if amount}
+
+
+def plain_time(text: str) -> str:
+    """A moment as it is written: without zeros at the end of its fraction."""
+    before, point, part = text.removesuffix("Z").partition(".")
+    return f"{before}{point}{part}".rstrip("0").rstrip(".") + "Z" if point else text
 
 
 class Stakes:
@@ -202,7 +274,7 @@ class Stakes:
 
     def __init__(self, wants, given=None):
         self.wants, self.at, self.slashes, self.touched = wants, {}, [], None
-        for line in given.genesis["delegations"] if given else ():
+        for line in given.genesis["delegations"] if given and given.genesis else ():
             if wants(line["delegator"], line["validator"]):
                 self.at.setdefault(line["validator"], {})[line["delegator"]] = int(line["amount"]) * ONE
 

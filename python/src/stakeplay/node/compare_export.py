@@ -11,9 +11,9 @@ Status: 0 nothing differs, 1 something does, 2 the store or the export is none.
 """
 from __future__ import annotations
 
-import argparse
 from typing import Any, Iterator
 
+from stakeplay.calling import Parser
 from stakeplay.node.data import Prefix, read_document, run
 from stakeplay.node.export import Json, Writer, read_export
 from stakeplay.node.to_export import export_of
@@ -75,11 +75,11 @@ def differences(path: str, name: str, chain: Any, store: Any) -> Iterator[str]:
 
 def main() -> int:
     """Writes the differences."""
-    reader = argparse.ArgumentParser(description=__doc__, formatter_class=argparse.RawDescriptionHelpFormatter)
+    reader = Parser(__doc__)
     reader.add_argument("store", metavar="STORE", help="the file of a store")
     reader.add_argument("export", metavar="EXPORT", help="what `simd export` wrote of the store's height")
     reader.add_argument("--next", metavar="RESULTS", help="the node's /block_results of the block after the store's")
-    words = reader.parse_args()
+    words = reader.words()
     prefix = Prefix(tells_long=False)
     of_store = export_of(words.store, words.next)
     params = of_store.state.params

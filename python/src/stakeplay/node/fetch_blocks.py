@@ -16,8 +16,10 @@ import os
 import sys
 import time
 import urllib.error
+import urllib.parse
 import urllib.request
 
+from stakeplay.calling import Parser, a_height
 from stakeplay.node.data import Stop, Value, read_document, run, stop
 
 PAGE = 100      # elements of a page
@@ -98,15 +100,23 @@ class Fetcher:
             page += 1
 
 
+def server(text: str) -> str:
+    """The place of a server among the words."""
+    parts = urllib.parse.urlsplit(text)
+    if parts.scheme not in ("http", "https") or not parts.hostname or parts.query or parts.fragment:
+        raise argparse.ArgumentTypeError(f"{text!r} is no server's place, as http://localhost:26657")
+    return text
+
+
 def arguments() -> argparse.Namespace:
     """What the recipe was called with."""
-    parser = argparse.ArgumentParser(description=__doc__, formatter_class=argparse.RawDescriptionHelpFormatter)
-    parser.add_argument("rpc", metavar="RPC", help="CometBFT's server, as http://localhost:26657")
-    parser.add_argument("rest", metavar="REST", help="the REST server of the SDK, as http://localhost:1317")
+    parser = Parser(__doc__)
+    parser.add_argument("rpc", metavar="RPC", type=server, help="CometBFT's server, as http://localhost:26657")
+    parser.add_argument("rest", metavar="REST", type=server, help="the REST server of the SDK, as http://localhost:1317")
     parser.add_argument("folder", metavar="FOLDER", help="where the answers go")
-    parser.add_argument("first", metavar="FIRST", type=int, help="the first height")
-    parser.add_argument("last", metavar="LAST", type=int, help="the last height")
-    words = parser.parse_args()
+    parser.add_argument("first", metavar="FIRST", type=a_height, help="the first height")
+    parser.add_argument("last", metavar="LAST", type=a_height, help="the last height")
+    words = parser.words()
     if not 1 <= words.first <= words.last:
         parser.error("FIRST is from 1 on, and not above LAST")
     return words

@@ -23,6 +23,7 @@ import tempfile
 import time
 from typing import Any, Iterator
 
+from stakeplay.calling import Parser, a_height
 from stakeplay.node.answers import Answers, Folder, Pages, length
 from stakeplay.node.data import Value, look, moment_text, run, stop, told
 from stakeplay.node.flows import Beginning, Json, beginning, end
@@ -168,12 +169,12 @@ def lines(folder: Folder, first: int, last: int) -> Iterator[str]:
 
 def arguments() -> argparse.Namespace:
     """What the recipe was called with."""
-    parser = argparse.ArgumentParser(description=__doc__, formatter_class=argparse.RawDescriptionHelpFormatter)
+    parser = Parser(__doc__)
     parser.add_argument("folder", metavar="FOLDER", help="the folder with the answers of a node")
-    parser.add_argument("first", metavar="FIRST", type=int, nargs="?", help="the first height of the range")
-    parser.add_argument("last", metavar="LAST", type=int, nargs="?", help="the last one; without both, all blocks")
+    parser.add_argument("first", metavar="FIRST", type=a_height, nargs="?", help="the first height of the range")
+    parser.add_argument("last", metavar="LAST", type=a_height, nargs="?", help="the last one; without both, all blocks")
     parser.add_argument("--at-once", action="store_true", help="write each line as soon as its block is read")
-    words = parser.parse_args()
+    words = parser.words()
     if words.first is not None and (words.last is None or not 1 <= words.first <= words.last):
         parser.error("FIRST and LAST are two heights, the first from 1 on and not above the last")
     return words

@@ -14,6 +14,7 @@ from __future__ import annotations
 
 import argparse
 
+from stakeplay.calling import Parser, a_count
 from stakeplay.node.data import (COLLECTOR, MODULE_ACCOUNTS, RESERVE, Coins, Value, coins_text, is_denom, look, note, read_answer,
                        read_document, run, stop)
 from stakeplay.node.events import minted
@@ -25,17 +26,17 @@ from stakeplay.node.state import State, ask_free, write_store
 
 def read_words() -> argparse.Namespace:
     """The words of the command."""
-    reader = argparse.ArgumentParser(description=__doc__, formatter_class=argparse.RawDescriptionHelpFormatter)
+    reader = Parser(__doc__)
     reader.add_argument("export", metavar="EXPORT", help="the export of a chain, or with --genesis a genesis document")
     reader.add_argument("store", metavar="STORE", nargs="?", help="the file of the store, which must not be there")
     reader.add_argument("--head", metavar="BLOCK", help="the node's /block of the last height")
     reader.add_argument("--next", metavar="RESULTS", help="the node's /block_results of the height after it")
     reader.add_argument("--reserve", metavar="DENOM,..", default="",
                         help="the denominations of which the reserve holds coins")
-    reader.add_argument("--power-reduction", metavar="N", type=int, default=1_000_000,
+    reader.add_argument("--power-reduction", metavar="N", type=a_count, default=1_000_000,
                         help="the tokens of one unit of power, a constant of the chain's program (1000000)")
     reader.add_argument("--genesis", action="store_true", help="write the genesis line of a chain that has not begun")
-    words = reader.parse_args()
+    words = reader.words()
     if words.genesis and (words.store or words.head or words.next):
         reader.error("--genesis writes a line: it takes no STORE, --head or --next")
     if not words.genesis and not (words.store and words.head):

@@ -11,7 +11,10 @@ from __future__ import annotations
 
 import argparse
 import json
+import re
 
+from stakeplay.addresses import kind_of
+from stakeplay.calling import Parser
 from stakeplay.node.data import Coins, Prefix, read_answer, run
 from stakeplay.node.events import minted
 from stakeplay.node.export import Export, Writer, export_of_store
@@ -35,13 +38,20 @@ def export_of(store: str, results: str | None) -> Export:
     return export_of_store(state, paid_ahead(state, results))
 
 
+def prefix(text: str) -> str:
+    """A chain's prefix of addresses among the words."""
+    if not re.fullmatch("[a-z][a-z0-9]{0,20}", text) or kind_of(text):
+        raise argparse.ArgumentTypeError(f"{text!r} is no prefix of a chain's accounts, as cosmos")
+    return text
+
+
 def main() -> None:
     """Writes the document."""
-    reader = argparse.ArgumentParser(description=__doc__, formatter_class=argparse.RawDescriptionHelpFormatter)
+    reader = Parser(__doc__)
     reader.add_argument("store", metavar="STORE", help="the file of a store")
     reader.add_argument("--next", metavar="RESULTS", help="the node's /block_results of the block after the store's")
-    reader.add_argument("--prefix", default="cosmos", help="the chain's prefix of addresses (cosmos)")
-    words = reader.parse_args()
+    reader.add_argument("--prefix", type=prefix, default="cosmos", help="the chain's prefix of addresses (cosmos)")
+    words = reader.words()
     print(json.dumps(Writer(Prefix(words.prefix)).document(export_of(words.store, words.next)), indent=1))
 
 

@@ -12,7 +12,9 @@ slashes that were told. At a report it compares, sums shares, and asks that the 
 records owe. The facts of a genesis are not written: without the input a transfer between users is only asked to be
 one that they could pay, and a user's first stake to be a whole number.
 """
+import argparse
 import json
+import os
 import sys
 from collections import Counter, defaultdict
 
@@ -52,8 +54,13 @@ def order(address):  # hexadecimal digits, or the values of a spelling's letters
 
 
 def stop(text):
-    print(f"audit.py: {text}", file=sys.stderr)
+    print(f"{os.path.basename(sys.argv[0])}: {text}", file=sys.stderr)
     sys.exit(2)
+
+
+class Parser(argparse.ArgumentParser):
+    def error(self, message):
+        stop(f"{message} (--help says what it takes)")
 
 
 class Audit:
@@ -463,8 +470,10 @@ def main(output, first=None):
             if not text.endswith(b"\n"):
                 stop(f"line {audit.place}: the output is cut in this line")
             audit.take(json.loads(text))
+    except BrokenPipeError:
+        raise
     except OSError as fault:
-        stop(f"{fault.filename}: {fault.strerror}")
+        stop(f"{fault.filename or output}: {fault.strerror}")
     except (ValueError, KeyError, TypeError, AttributeError, ArithmeticError, RecursionError):
         stop(f"line {audit.place}: this is no line of stakeplay's output" if audit.place else f"{first}: no genesis")
     if audit.part in ("", "block") or audit.part == "report" and (audit.height is not None or audit.group != "supply"):
@@ -477,6 +486,14 @@ def main(output, first=None):
 
 
 def command():
-    if len(sys.argv) not in (2, 3):
-        stop("usage: audit.py OUTPUT [INPUT]")
-    sys.exit(main(*sys.argv[1:]))
+    parser = Parser(description=__doc__, formatter_class=argparse.RawDescriptionHelpFormatter, allow_abbrev=False)
+    parser.add_argument("output", metavar="OUTPUT", help="what the program wrote; - for standard input")
+    parser.add_argument("input", metavar="INPUT", nargs="?", help="the input of `replay`, of which the first line is read")
+    words = parser.parse_args()
+    try:
+        status = main(words.output, words.input)
+        sys.stdout.flush()
+    except BrokenPipeError:
+        os.dup2(os.open(os.devnull, os.O_WRONLY), 1)
+        status = 2
+    sys.exit(status)

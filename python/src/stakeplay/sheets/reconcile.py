@@ -2,22 +2,29 @@
 
 Who wants it: an exchange that holds coins of its customers in several accounts, and closes its books each day.
 One command:  python3 reconcile.py FROM TO run.out ADDRESS..  (after block FROM, to after block TO; `-`: standard input)
+              python3 reconcile.py FROM TO run.out --addresses FILE  (an address on each line; `@FILE` for ADDRESS too)
 What comes out, for the third user of the example `life.out` and the heights 1 and 5, and then `adds up`:
     address,denom,was,received,paid,unbonded,sent,fees,delegated,funded,is,burned,known
     0307070707070707070707070707070707070707,uatom,999700,0,44,380000,0,7,0,0,1379737,11250,reckoned report
 `is` = `was` + received + paid + unbonded - sent - fees - delegated - funded. `paid` is rewards and commission;
 `received` also what the community pool spent, `unbonded` what came back from staking; `burned` is what slashes took
 of stakes (cut to whole units), which are in no account. `known` says where `was` and `is` come from: `report`, where
-the output has one at that height, else `reckoned` from the report that is nearest after it.
+the output has one at that height, else `reckoned` from the report that is nearest after it. Each address that was asked
+for has a row; one without coins at both heights that moved none has a row of zeros, without a denomination.
 
 After a report the next blocks and their report may stand, and lines of accounts before the first block; each report is
 held against the one before it and all that moved between them.
-Status: 0 all adds up, 1 something does not, 2 the output is cut, of another program, or does not reach from FROM to TO.
+Status: 0 all adds up, 1 something does not, 2 the output is cut, of another program, does not reach from FROM to TO, or
+names some address in no line.
 """
+from __future__ import annotations
+
+import argparse
 import csv
 import sys
 from collections import Counter, defaultdict
 
+from stakeplay.calling import Asked, Parser, a_height, addresses_of
 from stakeplay.lines.reading import COLLECTOR, DISTRIBUTION, MODULES, NOT_BONDED, ONE, Stakes, lines, run, stop, whole
 
 CAME = ("received", "paid", "unbonded")
@@ -131,7 +138,8 @@ class Books:
         out = csv.writer(sys.stdout, lineterminator="\n")
         out.writerow(["address", "denom", "was", *CAME, *WENT, "is", "burned", "known"])
         known = " ".join("report" if height in self.reports else "reckoned" for height in (self.first, self.last))
-        for key in sorted(self.begin.keys() | self.moved.keys()):
+        keys = self.begin.keys() | self.moved.keys()
+        for key in sorted(keys | {(address, "") for address in self.addresses.keys() - {key[0] for key in keys}}):
             was, then = (self.begin[key] + self.marks[height][key] for height in (self.first, self.last))
             moved = self.moved[key]
             columns = [moved[name] for name in CAME + WENT]
@@ -140,17 +148,37 @@ class Books:
             out.writerow([*key, was, *columns, then, moved["burned"] // ONE, known])
 
 
-def main():
-    if len(sys.argv) < 5 or not sys.argv[1].isdigit() or not sys.argv[2].isdigit():
-        stop("usage: reconcile.py FROM TO OUTPUT ADDRESS..")
-    first, last, name, *addresses = sys.argv[1:]
-    books = Books(int(first), int(last), addresses)
-    for line in lines(name):
+def arguments() -> argparse.Namespace:
+    """What the recipe was called with."""
+    parser = Parser(__doc__)
+    parser.add_argument("first", metavar="FROM", type=a_height, help="a height")
+    parser.add_argument("last", metavar="TO", type=a_height, help="another, not below the first")
+    parser.output()
+    parser.add_argument("some", metavar="ADDRESS", nargs="*", help="an account's address, or @FILE with some")
+    parser.add_argument("--addresses", metavar="FILE", action="append", default=[], help="a file with an address on each line")
+    parser.unknown()
+    words = parser.words()
+    if words.first > words.last:
+        parser.error("FROM is above TO")
+    if not words.some and not words.addresses:
+        parser.error("no address is asked for")
+    return words
+
+
+def main() -> int:
+    """Writes the books, and what does not add up."""
+    words = arguments()
+    addresses = addresses_of(words.some, words.addresses)
+    asked = Asked(addresses, allow_unknown=words.allow_unknown)
+    books = Books(words.first, words.last, addresses)
+    for line in lines(words.output):
+        asked.take(line["kind"], line)
         books.take(line)
     if books.begin is None:
         stop("no report tells what the addresses have")
-    if not books.marks.keys() >= {books.first, books.last} or books.first > books.last:
-        stop(f"the output does not reach from height {first} to height {last}")
+    if not books.marks.keys() >= {books.first, books.last}:
+        stop(f"the output does not reach from height {books.first} to height {books.last}")
+    asked.end()
     books.write()
     for fault in books.faults:
         print(f"WRONG {fault}")
@@ -158,5 +186,6 @@ def main():
     return 1 if books.faults else 0
 
 
-def command():
+def command() -> None:
+    """Runs the recipe."""
     run(main)

@@ -3,7 +3,7 @@
 Who wants it: whoever declares what an address earned, and a program for taxes that reads CSV.
 One command:  python3 tax_sheet.py ADDRESS run.out            (`-` for standard input)
               python3 tax_sheet.py ADDRESS run.out run.jsonl  (with the input beside it; see below)
-              python3 tax_sheet.py ADDRESS run.out statements=FILE  (with reward statements; in front of run.jsonl too)
+              python3 tax_sheet.py ADDRESS run.out --statements FILE  (with reward statements; `statements=FILE` too)
 What comes out, for the third user of the example `life.out`:
     time,height,what,in,out,aside,denom,other
     2024-01-01T00:00:05Z,1,fee,,300,,uatom,
@@ -17,14 +17,21 @@ Whether a statement is right is another question: `check_statement.py`.
 
 A refusal names nobody: it is told of the payer of its fee, so one without a fee is told only with the input beside
 the output, as is what a slash takes of a delegation of the genesis. Burns of unbonding entries name no delegator and
-are in no sheet; what is left of an entry is the row `unbonded`.
+are in no sheet; what is left of an entry is the row `unbonded`. A row of a refusal ends by the place of its message,
+its kind (with the input), and the refusal's name and condition; `refusals.py` has more.
+Status: 0, or 2 where the output is cut or of another program, or where no line of it names the address.
 """
+from __future__ import annotations
+
+import argparse
 import csv
 import json
 import sys
 
+from stakeplay.calling import Asked, Parser, an_address
 from stakeplay.lines.reading import COLLECTOR, DISTRIBUTION, MODULES, NOT_BONDED, ONE, Input, Stakes
 from stakeplay.lines.reading import bare, lines, opened, run, stop, units, shown, whole
+from stakeplay.tables import refusal_named
 
 
 def word(account, is_given):
@@ -50,8 +57,8 @@ def statements_of(name):
 
 
 class Sheet:
-    def __init__(self, address, given, statements):
-        self.statements = statements
+    def __init__(self, address, given, statements, asked):
+        self.statements, self.asked = statements, asked
         self.address, self.given, self.out = address, given, csv.writer(sys.stdout, lineterminator="\n")
         self.time = self.height = ""
         self.payer, self.waiting = None, {}  # who paid this transaction's fee; coins whose reason comes a line later
@@ -65,6 +72,9 @@ class Sheet:
 
     def take(self, line):
         kind = line["kind"]
+        self.asked.take(kind, line)
+        if self.given:
+            self.given.take(kind, line)
         is_reason = kind in ("paid", "commission") and whole(line["coins"]) == self.waiting
         if self.waiting and kind != "pooled" and not is_reason:
             self.row("pool spending", "in", self.waiting)
@@ -120,10 +130,13 @@ class Sheet:
         self.payer = None
 
     def refused(self, line):
-        payer = self.given.at(line["height"])["txs"][line["tx"]]["payer"] if self.given else self.payer
-        if payer == self.address:
+        sent = self.given.transaction(line) if self.given and self.given.has(line["height"]) else None
+        if (sent["payer"] if sent else self.payer) == self.address:
+            self.asked.name(self.address)
             place = f"tx {line['tx']}" + (f" msg {line['msg']}" if "msg" in line else "")
-            self.out.writerow([self.time, self.height, f"refused {line['number']}", "", "", "", "", place])
+            kind = f" {sent['msgs'][line['msg']]['kind']}" if sent and "msg" in line else ""
+            why = f"{place}{kind}: {refusal_named(line['number'])}"
+            self.out.writerow([self.time, self.height, f"refused {line['number']}", "", "", "", "", why])
         self.payer = None
 
     def account(self, line):
@@ -136,15 +149,31 @@ class Sheet:
             self.row("pending", "aside", coins, line["validator"])
 
 
-def main():
-    words = [word for word in sys.argv[1:] if not word.startswith("statements=")]
-    files = [word.split("=", 1)[1] for word in sys.argv[1:] if word.startswith("statements=")]
-    if len(words) not in (2, 3) or len(files) > 1:
-        stop("usage: tax_sheet.py ADDRESS OUTPUT [statements=FILE] [INPUT]")
-    sheet = Sheet(words[0], Input(words[2]) if len(words) == 3 else None, statements_of(files[0]) if files else {})
-    for line in lines(words[1]):
+def arguments() -> argparse.Namespace:
+    """What the recipe was called with."""
+    parser = Parser(__doc__)
+    parser.add_argument("address", metavar="ADDRESS", type=an_address, help="of the account, as the run spells it")
+    parser.output()
+    parser.input_beside()
+    parser.add_argument("--statements", metavar="FILE", help="reward statements, as the command `statement` makes them")
+    parser.unknown()
+    given = sys.argv[1:]
+    sys.argv[1:] = [part for word in given for part in (
+        ["--statements", word[11:]] if word.startswith("statements=") else [word])]
+    return parser.words()
+
+
+def main() -> None:
+    """Writes the sheet."""
+    words = arguments()
+    asked = Asked([words.address], allow_unknown=words.allow_unknown)
+    statements = statements_of(words.statements) if words.statements is not None else {}
+    sheet = Sheet(words.address, Input(words.input) if words.input else None, statements, asked)
+    for line in lines(words.output):
         sheet.take(line)
+    asked.end()
 
 
-def command():
+def command() -> None:
+    """Runs the recipe."""
     run(main)

@@ -10,13 +10,19 @@ What comes out, for the second operator of the example `life.out` with its input
 input up to a block, and it has its own. `stake` is the sum of the stakes on which rewards are reckoned, cut at each
 slash: the tokens but for rounding. `outstanding` is reckoned from the genesis on; `commission` too, with the input
 beside the output, which has the rates. The votes (`power`, `signed`) are the input's. Several slashes of a block are
-added up in `burned`. A cell is empty where no line tells its value.
-Status: 0, or 1 where a report has another value than was reckoned, or 2 where the output is cut or of another program.
+added up in `burned`. A cell is empty where no line tells its value, and the picture's line of the stake begins where one
+is known: of what `resume` wrote that is its report, or the report before it (`cat before.out day.out |`, and `-`).
+Status: 0, or 1 where a report has another value than was reckoned, or 2 where the output is cut or of another program,
+or where no line of it names the validator.
 """
+from __future__ import annotations
+
+import argparse
 import csv
 import sys
 from collections import Counter
 
+from stakeplay.calling import Asked, Parser, an_operator
 from stakeplay.lines.reading import ONE, Input, Rest, Stakes, lines, raw, run, shown, stop, units, whole
 
 COLUMNS = ("time height status jailed tokens shares commission outstanding stake allocated paid withdrawn fraction "
@@ -58,7 +64,7 @@ class Picture:
     """Stake and rewards over the blocks, in at most a thousand points."""
 
     def __init__(self):
-        self.points, self.marks, self.step, self.denom, self.rewards, self.stake = [], [], 1, None, 0, 0
+        self.points, self.marks, self.step, self.denom, self.rewards, self.stake = [], [], 1, None, 0, None
 
     def add(self, height, stake, shares):
         self.stake = self.stake if stake is None else stake
@@ -76,9 +82,10 @@ class Picture:
 
     def line(self, place, color):
         first, last = self.points[0][0], max(self.points[-1][0], self.points[0][0] + 1)
-        most = max(point[place] for point in self.points) or 1
-        dots = " ".join(f"{60 + 880 * (p[0] - first) / (last - first):.1f},{340 - 300 * p[place] / most:.1f}"
-                        for p in self.points)
+        told = [point for point in self.points if point[place] is not None]
+        most = max((point[place] for point in told), default=0)
+        dots = " ".join(f"{60 + 880 * (p[0] - first) / (last - first):.1f},{340 - 300 * p[place] / (most or 1):.1f}"
+                        for p in told)
         return f'<polyline fill="none" stroke="{color}" stroke-width="2" points="{dots}"/>', most, first, last
 
     def write(self, name, operator):
@@ -88,8 +95,11 @@ class Picture:
         rewards, most_rewards, _, _ = self.line(2, "#2ca02c")
         marks = "".join(f'<line x1="{x}" x2="{x}" y1="40" y2="340" stroke="{color}" stroke-dasharray="4"/>\n'
                         for x, color in ((f"{60 + 880 * (h - first) / (last - first):.1f}", c) for h, c in self.marks))
+        at = next((point[0] for point in self.points if point[1] is not None), None)
+        begins = "" if at == first else f", known from block {at} on"
+        told = f"stake, at most {shown(most_stake)}{begins}" if at is not None else "the stake is told nowhere"
         words = [(60, 25, "#000", operator), (60, 360, "#000", f"block {first}"), (860, 360, "#000", f"block {last}"),
-                 (60, 385, "#1f77b4", f"stake, at most {shown(most_stake)}"),
+                 (60, 385, "#1f77b4", told),
                  (60, 405, "#2ca02c", f"rewards allocated, together {shown(most_rewards)} {self.denom or ''}"),
                  (700, 385, "#d62728", "slashed"), (780, 385, "#ff7f0e", "jailed")]
         texts = "".join(f'<text x="{x}" y="{y}" fill="{color}" font-size="14">{text}</text>\n'
@@ -101,10 +111,11 @@ class Picture:
 
 
 class Sheet:
-    def __init__(self, operator, given):
+    def __init__(self, operator, given, asked):
+        self.asked, genesis = asked, given.genesis if given else None
         self.operator, self.given, self.out = operator, given, csv.writer(sys.stdout, lineterminator="\n")
         self.rest, self.stakes = Rest(), Stakes(lambda delegator, validator: validator == operator, given)
-        self.has_stakes, self.is_slash = given is not None, False
+        self.has_stakes, self.is_slash = genesis is not None, False
         self.picture, self.row, self.wrong = Picture(), None, 0
         self.known = False
         self.status = self.jailed = self.outstanding = self.commission = self.rate = self.cons = None
@@ -112,13 +123,17 @@ class Sheet:
                       "slashed": self.slashed, "period": self.period, "status": self.changed, "jailed": self.jail,
                       "unjailed": self.jail, "removed": self.removed, "delegation": self.delegated}
         self.out.writerow(COLUMNS)
-        for line in given.genesis["validators"] if given else ():
+        for line in genesis["validators"] if genesis else ():
             if line["operator"] == operator:
+                asked.name(operator)
                 self.known, self.cons, self.rate, self.commission = True, line["cons"], decimal(line["rate"]), {}
-                self.status = "bonded" if operator in bonded_at_start(given.genesis) else "unbonded"
+                self.status = "bonded" if operator in bonded_at_start(genesis) else "unbonded"
 
     def take(self, line):
         kind, is_mine = line["kind"], line.get("validator") == self.operator
+        self.asked.take(kind, line)
+        if self.given:
+            self.given.take(kind, line)
         left, lost = self.rest.take(kind, line), self.stakes.take(kind, line)
         if kind == "genesis":
             self.outstanding, self.jailed = {}, False
@@ -128,8 +143,8 @@ class Sheet:
         elif kind == "pool":
             self.has_stakes = self.has_stakes or self.known
             self.close()
-        elif kind == "accepted" and self.given:
-            self.rates(self.given.at(line["height"])["txs"][line["tx"]]["msgs"])
+        elif kind == "accepted" and self.given and self.given.has(line["height"]):
+            self.rates(self.given.transaction(line)["msgs"])
         elif kind == "burn":
             if lost and not self.is_slash:  # of a redelegation to here
                 self.row["burned"] += int(line["amount"])
@@ -147,7 +162,7 @@ class Sheet:
     def open(self, line):
         self.row = {"time": line["time"], "height": line["height"], "burned": 0}
         self.row |= {name: Counter() for name in ("allocated", "paid", "withdrawn")}
-        for vote in self.given.at(line["height"])["votes"] if self.given else ():
+        for vote in self.given.at(line["height"])["votes"] if self.given and self.given.has(line["height"]) else ():
             if vote["cons"] == self.cons:
                 self.row |= {"power": vote["power"], "signed": "yes" if vote["signed"] else "no"}
 
@@ -233,7 +248,7 @@ class Sheet:
             setattr(self, name, told)
         self.row = self.row or {}
         self.row |= {"tokens": line["tokens"], "shares": line["shares"]}
-        self.status, self.jailed, self.rate = line["status"], line["jailed"], self.rate if self.given else None
+        self.status, self.jailed, self.rate = line["status"], line["jailed"], raw(line["rate"]) if self.given else None
 
     def delegated(self, line):
         """The stake of a delegation in a report is the value of its shares, where no line told its start."""
@@ -242,21 +257,31 @@ class Sheet:
             self.stakes.at.setdefault(self.operator, {}).setdefault(line["delegator"], value)
 
 
-def main():
-    words = sys.argv[1:]
-    picture = words.pop() if len(words) > 3 and words[-2] == "--svg" else None
-    if picture:
-        words.pop()
-    if len(words) not in (2, 3):
-        stop("usage: validator_sheet.py OPERATOR OUTPUT [INPUT] [--svg FILE]")
-    sheet = Sheet(words[0], Input(words[2]) if len(words) == 3 else None)
-    for line in lines(words[1]):
+def arguments() -> argparse.Namespace:
+    """What the recipe was called with."""
+    parser = Parser(__doc__)
+    parser.add_argument("operator", metavar="OPERATOR", type=an_operator, help="the validator's, as the run spells it")
+    parser.output()
+    parser.input_beside()
+    parser.add_argument("--svg", metavar="FILE", help="where a picture goes")
+    parser.unknown()
+    return parser.words()
+
+
+def main() -> int:
+    """Writes the sheet and the picture."""
+    words = arguments()
+    asked = Asked([words.operator], is_operator=True, allow_unknown=words.allow_unknown)
+    sheet = Sheet(words.operator, Input(words.input) if words.input else None, asked)
+    for line in lines(words.output):
         sheet.take(line)
     sheet.close()
-    if picture:
-        sheet.picture.write(picture, words[0])
+    asked.end()
+    if words.svg is not None:
+        sheet.picture.write(words.svg, words.operator)
     return 1 if sheet.wrong else 0
 
 
-def command():
+def command() -> None:
+    """Runs the recipe."""
     run(main)

@@ -4,11 +4,13 @@ Who wants it: whoever is shown a statement and trusts neither its maker nor the 
 One command:  python3 check_statement.py [bech32] statements.jsonl   (`-` for standard input)
 What comes out, for each line:  {"kind":"checked","line":1,"yes":true}
 `yes` is true exactly where the low bound, the high one and the slack are those of the entries, and the reward is at most
-the high bound and, with the slack, at least the low one. A line that is no statement ends the run with status 2, and
-bounds of 10^38 units of 10^-18 or more with status 3. The program's command `check` does the same, proved, of lines of
+the high bound and, with the slack, at least the low one. A line that is no statement, or none at all, ends the run with status 2,
+and bounds of 10^38 units of 10^-18 or more with status 3. The program's command `check` does the same, proved, of lines of
 at most 4,194,304 bytes.
 """
+import argparse
 import json
+import os
 import re
 import sys
 
@@ -131,6 +133,7 @@ def main(words, addr=form("[0-9a-f]{40}", lambda digits: user(int(digits, 16))))
     table = [(120, "kind", form("statement")), (121, "delegator", users), (122, "validator", operators), (123, "height", number)]
     table += [(124 + i, name, coins) for i, name in enumerate(("reward", "low", "high", "slack"))]
     table += [(128, "removals", number), (129, "ratio", coins), (130, "entries", entries)]
+    n = 0
     for n, line in enumerate(sys.stdin.buffer if words[-1:] == ["-"] else open(words[-1], "rb"), 1):
         try:
             s = members(json.loads(line, parse_int=lambda d: float(d) if d[0] == "-" else int(d)), table)
@@ -141,8 +144,27 @@ def main(words, addr=form("[0-9a-f]{40}", lambda digits: user(int(digits, 16))))
             return n, f"bad shape {fault}" if isinstance(fault, Bad) else "not JSON", 2
         except OverflowError:
             return n, "limit bound", 3
+    if not n:
+        return n, "nothing was read", 2
 
 
 def command():
-    line, what, status = main(sys.argv[1:] or sys.exit(__doc__)) or (0, "", 0)
-    sys.exit(what and print(f"line {line}: {what}", file=sys.stderr) or status)
+    name = os.path.basename(sys.argv[0])
+    parser = argparse.ArgumentParser(description=__doc__, formatter_class=argparse.RawDescriptionHelpFormatter,
+                                     allow_abbrev=False)
+    parser.error = lambda message: parser.exit(2, f"{name}: {message} (--help says what it takes)\n")
+    parser.add_argument("words", metavar="[bech32] FILE", nargs="+", help="reward statements, a line each; - for standard input")
+    words = parser.parse_args().words
+    if len(words) > 2 or words[:-1] not in ([], ["bech32"]):
+        parser.error("wants the name of a file, and perhaps the word bech32 before it")
+    try:
+        line, what, status = main(words) or (0, "", 0)
+        sys.stdout.flush()
+    except BrokenPipeError:
+        os.dup2(os.open(os.devnull, os.O_WRONLY), 1)
+        line, what, status = 0, "", 2
+    except (OSError, ValueError) as fault:
+        parser.exit(2, f"{name}: {words[-1]}: {getattr(fault, 'strerror', fault)}\n")
+    if what:
+        print(f"line {line}: {what}" if line else f"{name}: {what}", file=sys.stderr)
+    sys.exit(status)
