@@ -123,7 +123,7 @@ function figure(fig, what, how) {
   const [text, denom, place, height, note] = fig, to = how || (value => cut(inCoins(value, denom)));
   const all = denom ? `${inCoins(text, denom)} ${coin(denom)[1]}` : text;
   const button = el("button", {class: "fig", type: "button", title: `${all}; click for its line`, "data-value": text,
-    "data-denom": denom || null, "data-place": place, "data-height": height, "data-what": what, text: to(text),
+    "data-denom": denom || null, "data-place": place, "data-height": height, "data-what": what, "data-note": note || null, text: to(text),
     onclick: () => showFact({value: text, denom, place, height, what, note, back: button})});
   return el("span", {}, button, denom && !how ? el("span", {class: "unit", text: " " + unitOf(denom)}) : null);
 }
@@ -234,7 +234,7 @@ class Chart {
     this.node.append(this.tableOf());
     this.picture = svg("svg", {tabindex: "0", role: "group", "aria-roledescription": "chart", "aria-label": this.told(),
       onkeydown: event => this.press(event), onblur: () => this.leave(), onpointermove: event => this.point(event),
-      onpointerleave: () => this.leave(), onclick: event => { this.point(event); this.choose(); }});
+      onpointerleave: () => this.leave(), onclick: event => { if (byId("tip").hidden) this.point(event); this.choose(); }});
     this.plot.append(this.picture);
     this.at = {curve: this.curves[0], index: this.curves[0].h.length - 1};
     Chart.watch(this);
@@ -282,7 +282,7 @@ class Chart {
         this.curves.length > 1 && {name: "Curve", key: row => row.part.name, cell: row => row.part.name},
         {name: "Value", num: true, key: row => row.part.y[row.at], cell: row => {
           const fact = row.part.fact(row.at);
-          const button = el("button", {class: "fig", type: "button", text: row.part.shown(row.at), onclick: () => showFact({...fact, back: button})});
+          const button = el("button", {class: "fig", type: "button", "data-place": fact.place, "data-height": fact.height, text: row.part.shown(row.at), onclick: () => showFact({...fact, back: button})});
           return button; }}].filter(Boolean)}));
     });
     return box;
@@ -460,7 +460,7 @@ function spark(text, places) {
 
 const compare = (a, b) => a === b ? 0 : a === null || a === undefined ? 1 : b === null || b === undefined ? -1 : a < b ? -1 : 1;
 
-function table({id, caption, columns, rows, most = 25, filter, sorted, current, pin}) {
+function table({id, caption, columns, rows, most = 25, filter, sorted, current, pin, of}) {
   const state = {by: sorted ? sorted[0] : -1, down: sorted ? sorted[1] : false, words: "", shown: most};
   const body = el("tbody"), told = el("span", {class: "count", role: "status"}), heads = columns.map((column, at) => {
     const button = el("button", {type: "button", text: column.name, onclick: () => {
@@ -486,7 +486,7 @@ function table({id, caption, columns, rows, most = 25, filter, sorted, current, 
     }
     heads.forEach((head, at) => { if (columns[at].key) head.setAttribute("aria-sort", at !== state.by ? "none" : state.down ? "descending" : "ascending"); });
     const shown = kept.slice(0, state.shown);
-    body.replaceChildren(...shown.map(row => el("tr", {"aria-current": current && current(row) ? "true" : null},
+    body.replaceChildren(...shown.map(row => el("tr", {"aria-current": current && current(row) ? "true" : null, "data-of": of ? of(row) : null},
       columns.map(column => el("td", {class: column.num ? "num" : null}, column.cell(row))))));
     if (!kept.length) body.append(el("tr", {}, el("td", {colspan: columns.length, class: "soft", text: rows.length ? "No row has these words." : "There are none."})));
     more.hidden = kept.length <= state.shown;
@@ -603,7 +603,7 @@ function yearly(rows) {
 function coinTable(coins) {
   const names = [["first", "Supply at first"], ["burned", "Burned"], ["supply", "Supply at the end"], ["fees", "Fees of blocks"],
     ["allocated", "Given to validators"], ["rewards", "Rewards paid"], ["commission", "Commission paid"]];
-  return el("div", {}, el("h3", {text: "By denomination"}), table({id: "coins", caption: "What the chain has, burned and gave, by denomination", rows: coins, pin: true,
+  return el("div", {}, el("h3", {text: "By denomination"}), table({id: "coins", caption: "What the chain has, burned and gave, by denomination", rows: coins, pin: true, of: row => row.denom,
     filter: coins.length > 8 ? "Filter denominations" : null, columns: [
       {name: "Denomination", key: row => row.denom, text: row => row.denom, cell: row => el("span", {title: row.denom, text: short(row.denom)})},
       ...names.map(([name, title]) => ({name: title, num: true, key: row => row[name] ? whole(row[name][0]) : null,
@@ -626,7 +626,7 @@ function validatorPart() {
     if (moves) { place.scrollIntoView({block: "start"}); place.focus({preventScroll: true}); }
   };
   const list = table({id: "validators-table", caption: "Validators as the report at the end has them", rows: ordered, filter: "Filter by address or state", pin: true,
-    sorted: ordered.some(row => row.rank) ? [0, false] : null, current: row => row === state_.shown, columns: [
+    sorted: ordered.some(row => row.rank) ? [0, false] : null, current: row => row === state_.shown, of: row => row.a, columns: [
       {name: "Rank", num: true, key: row => row.rank || null, text: row => String(row.rank || ""), cell: row => row.rank ? String(row.rank) : "\u2013"},
       {name: "Operator", key: row => row.a, text: row => row.a, cell: row => el("button", {class: "addr", type: "button", title: row.a, text: short(row.a), onclick: () => open(row, true)})},
       {name: "State", key: row => stateOf(row)[0], text: row => stateOf(row)[0], cell: state},
@@ -678,7 +678,7 @@ function validatorDetail(row, ordered, go) {
       curves: [curve("Delegators", "var(--c1)", series.delegators, {what: "delegations after this block"})]}),
     new Chart({title: "Commission paid, added up", unit: unitOf(run.denom), fromZero: true, hint: "No commission was paid.", about: "Whole coins that its operator withdrew.",
       curves: [curve("Commission", "var(--c4)", series.withdrawn, {denom: run.denom, what: "all commission paid up to this block, the last of it in this line"})]})]);
-  return el("div", {class: "one"}, el("div", {class: "bar"}, turn("Back", -1), choice, turn("Next", 1)),
+  return el("div", {class: "one", "data-of": row.a}, el("div", {class: "bar"}, turn("Back", -1), choice, turn("Next", 1)),
     el("h3", {}, address(row.a, true), " ", state(row)), row.cons && el("p", {class: "soft small"}, "consensus address ", address(row.cons, true)),
     tiles, pictures, eventTable(row), visitTable(row));
 }
@@ -734,7 +734,7 @@ function addressDetail(row) {
     new Chart({title: "Stake", unit: unitOf(bond), marks: row.marks.rows, about: "What its rewards are reckoned on; slashes are marks.", hint: "No line tells of a stake.",
       curves: at >= 0 ? [curve("Stake", "var(--c1)", series.stake, {places: 18, denom: bond, what: "stake after this block: the sum of its delegations' stakes"})] : []}),
     new Chart({title: "Paid, added up", unit: units(series.paid), fromZero: true, curves: coinCurves(series.paid, "all rewards and commission paid up to this block"), about: "Rewards and commission.", hint: "It was paid nothing."})]);
-  return el("article", {style: "margin-top:8px"}, el("h3", {}, address(row.a, true)), tiles, pictures, stakeTable(row), moveTable(row));
+  return el("article", {style: "margin-top:8px", "data-of": row.a}, el("h3", {}, address(row.a, true)), tiles, pictures, stakeTable(row), moveTable(row));
 }
 function stakeTable(row) {
   if (!row.staked.length) return null;
@@ -803,5 +803,5 @@ byId("main").append(...parts);
 byId("nav").append(el("div", {}, [...parts.map(node => [node.id, node.querySelector("h2").textContent]), ["foot", "About"]].map(([id, text]) => el("a", {href: "#" + id, text}))));
 foot();
 requestAnimationFrame(() => requestAnimationFrame(() => { document.documentElement.dataset.drawn = String(Math.round(performance.now() - began)); }));
-window.stakeplay = {points, data, Chart};
+window.stakeplay = {points, data, charts: () => [...Chart.all.values()]};
 })();

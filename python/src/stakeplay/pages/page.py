@@ -11,43 +11,43 @@ Status: 0; 1 where the lines do not add up, which the page says too; 2 where the
 from __future__ import annotations
 
 import argparse
-import re
 import sys
 
+from stakeplay.addresses import bare, kind_of, prefix_of, spelled_as
+from stakeplay.calling import Parser, an_address, stop
 from stakeplay.lines.reading import run as guarded
-from stakeplay.lines.reading import stop
 from stakeplay.pages.document import Document, page
 from stakeplay.pages.given import Given
 from stakeplay.pages.run import Run
+from stakeplay.sheets.tax_year import an_exponent
 
 
-def exponent(text: str) -> tuple[str, tuple[int, str]]:
-    """`uatom=6:ATOM`: 10^6 units of uatom are one ATOM."""
-    found = re.fullmatch(r"([^=]+)=(\d{1,2}):(\S{1,20})", text)
-    if not found:
-        raise argparse.ArgumentTypeError(f"{text}: this is to be as uatom=6:ATOM")
-    return found[1], (int(found[2]), found[3])
+def an_account(text: str) -> str:
+    """An address to show: an operator's stands for that of its account."""
+    return spelled_as(text, "") if kind_of(prefix_of(text) or "") == "valoper" else an_address(text)
 
 
 def arguments() -> argparse.Namespace:
     """What the recipe was called with."""
-    parser = argparse.ArgumentParser(description=__doc__, formatter_class=argparse.RawDescriptionHelpFormatter)
+    parser = Parser(__doc__)
     parser.add_argument("run", metavar="RUN", help="the output of a run, or - for standard input")
     parser.add_argument("inputs", metavar="INPUT", nargs="*", help="the files of its input, and files of statements")
-    parser.add_argument("--only", metavar="ADDRESS", action="append", default=[], help="an address to show; may stand again")
-    parser.add_argument("--exponent", metavar="DENOM=N:NAME", type=exponent, action="append", default=[],
+    parser.add_argument("--only", metavar="ADDRESS", type=an_account, action="append", default=[],
+                        help="an address to show; may stand again")
+    parser.add_argument("--exponent", metavar="DENOM=N:NAME", type=an_exponent, action="append", default=[],
                         help="10^N units of DENOM are one NAME")
     parser.add_argument("--denom", metavar="DENOM", help="whose rewards are drawn; else the bond denomination, if it is allocated")
     parser.add_argument("--window", metavar="N", type=int, help="the votes of the window, where no genesis tells it")
     parser.add_argument("--min-signed", metavar="PART", help="the part of them that is to be signed, as 0.05")
     parser.add_argument("--most-bytes", metavar="N", type=int, default=4_900_000, help="how long the file may be")
-    return parser.parse_args()
+    return parser.words()
 
 
 def named(run: Run) -> None:
     """Each address that was asked for is one of the run, or the page would tell nothing and look as if it did."""
+    operators = {bare(address) for address in run.by_text}
     for asked in run.addresses:
-        is_operator = asked.address in run.by_text
+        is_operator = bare(asked.address) in operators
         if not (is_operator or asked.rows.count or asked.staked or asked.unbonding or asked.account[0] or asked.stake > 0):
             stop(f"no line names {asked.address}")
 

@@ -37,6 +37,8 @@ class Run:
         self.by_text: dict[str, Validator] = {}
         self.tallies: dict[bytes, list[Any]] = {}   # by how a share's line ends
         self.votes = Votes()
+        self.cons: dict[str, str] = {}              # of an operator
+        self.operators: dict[str, Validator] = {}   # by the consensus address, as the report has them
         self.is_telling: bool | None = None     # whether the block of the input has messages that no fact tells; not known yet
         self.moments: array[int] = array("q")
         self.block_lines: array[int] = array("q")
@@ -147,7 +149,7 @@ class Run:
             validator.stands = validator.is_known = True
             validator.rate = line["rate"], place, 0
             validator.place = place
-            self.votes.windows[line["cons"]] = Window(validator, 0)
+            self.cons[validator.address] = line["cons"]
         for line in genesis["delegations"]:
             validator = self.validator_of(line["validator"])
             validator.start(line["delegator"], int(line["amount"]) * ONE)
@@ -159,6 +161,7 @@ class Run:
         powers = sorted((-(v.stake // ONE // params["power_reduction"]), v.address) for v in self.by_text.values())
         bonded = {address for power, address in powers[:params["max_validators"]] if power}
         tokens = sum(v.stake // ONE for v in self.by_text.values() if v.address in bonded)
+        self.votes.windows = {self.cons[address]: Window(self.by_text[address], 0) for address in bonded}
         self.has_stakes = True
         self.starts = {"bonded": ({"": tokens}, place), "active": ({"": len(bonded)}, place),
                        "jailed": ({"": 0}, place), "all": ({"": len(self.by_text)}, place)}
@@ -190,6 +193,9 @@ class Run:
             self.changed = dict.fromkeys(("bonded", "supply", "active", "jailed", "all"), place)
             self.stakes_moved = dict.fromkeys(v for v in self.by_text.values() if v.stands)
             self.counted = {v: v.place for v in self.stakes_moved}
+            for asked in self.addresses:
+                coins, told = self.starts.get("account " + asked.address, ({}, 0))
+                asked.changed |= {(False, denom): (0, told) for denom in coins}
             self.votes.moved = dict.fromkeys(w for w in self.votes.windows.values() if self.given.is_there)
         self.moments.append(nanoseconds(line["time"]))
         self.block_lines.append(place)
@@ -409,10 +415,11 @@ class Run:
         if status != "unbonded":
             self.count(0, 1 if status == "bonded" else -1, place, "active")
         self.mark(validator, place, status, "")
-        if status == "bonded":
-            for window in self.votes.windows.values():
-                if window.validator is validator:
-                    window.start = self.height
+        if status == "bonded" and (cons := self.cons.get(validator.address)):
+            window = self.votes.windows.setdefault(cons, Window(validator, self.height))
+            window.validator, window.start = validator, self.height
+            self.votes.moved[window] = None
+            self.votes.change()
 
     def jailed(self, line: Json, place: int) -> None:
         """A validator is jailed; after downtime its votes begin anew."""
@@ -475,18 +482,9 @@ class Run:
                 validator.rate = message["rate"], self.given.place, self.height
                 validator.rate_series.add(self.step, decimal(message["rate"]), self.height, self.given.place)
             if kind == "create_validator":
-                self.join(message)
+                self.cons[message["validator"]] = message["cons"]
             elif kind == "update_params":
                 self.votes.parameters(message["params"])
-
-    def join(self, message: Json) -> None:
-        """A new validator takes over the votes of its consensus address, if there were some."""
-        validator, cons = self.validator_of(message["validator"]), message["cons"]
-        self.votes.change()
-        if cons in self.votes.windows:
-            self.votes.windows[cons].validator = validator
-        else:
-            self.votes.windows[cons] = Window(validator, self.height)
 
     def refused(self, line: Json, place: int) -> None:
         """A transaction did not pass; its fee is told by a transfer."""
@@ -514,10 +512,11 @@ class Run:
         """A validator as it stands."""
         validator = self.validator_of(line["operator"])
         validator.report, validator.report_place = line, place
+        self.cons[validator.address] = line["cons"]
+        self.operators[line["cons"]] = validator
         self.report["validators"][0].append(validator)
         if not self.is_begun():
             validator.stands, validator.is_jailed, validator.place = True, line["jailed"], place
-            self.votes.windows.setdefault(line["cons"], Window(validator, 0))
 
     def is_begun(self) -> bool:
         """Whether a block was read."""
@@ -556,10 +555,11 @@ class Run:
 
     def signing(self, line: Json, place: int) -> None:
         """A signing record: held against the votes that were read, or the first that is known of them."""
-        window = self.votes.windows.get(line["cons"])
-        if window is None:
+        validator = self.operators.get(line["cons"])
+        if validator is None:
             return
-        window.validator.missed, window.validator.signing, window.validator.signing_place = line["missed"], line, place
+        validator.signing, validator.signing_place = line, place
+        window = self.votes.windows.setdefault(line["cons"], Window(validator, line["start"]))
         if not self.is_begun():
             window.start, window.before = line["start"], line["missed"]
             window.stopped = window.begun = line["counted"]
