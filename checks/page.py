@@ -26,6 +26,7 @@ import browser  # noqa: E402
 
 ROOT = pathlib.Path(__file__).resolve().parent.parent
 RECIPES = ROOT / "examples/recipes"
+LETTERS = "qpzry9x8gf2tvdw0s3jn54khce6mua7l"
 ONE, FILES = 10 ** 18, 1 << 40
 Json = dict[str, Any]
 bad: list[str] = []
@@ -181,7 +182,7 @@ class Told:
                 stake[operator][height] = sums[operator]
             for delegator, amount in ours.items():
                 own[delegator][height] = amount
-            for place, operator in enumerate(sorted(stand, key=lambda name: (-sums[name], name)), 1):
+            for place, operator in enumerate(sorted(stand, key=lambda name: (-sums[name], order_of(name))), 1):
                 rank[operator][height] = place
         return stake, rank, own
 
@@ -201,6 +202,12 @@ class Told:
                     start = height if line.get("status") == "bonded" else start
             after[height] = votes[-size:].count(False)
         return after
+
+
+def order_of(address: str) -> list[int]:
+    """What puts addresses into the order of their bytes: digits, or the letters of a spelling by what they stand for."""
+    letters = address.rpartition("1")[2][:-6] if address.startswith("cosmos") else address
+    return ["0123456789abcdef".index(letter) if letters is address else LETTERS.index(letter) for letter in letters]
 
 
 def units(text: str) -> int:

@@ -4,14 +4,13 @@ from __future__ import annotations
 from collections import deque
 from typing import Any, Generic, TypeVar
 
+from stakeplay.addresses import HEXADECIMAL, from_bech32
 from stakeplay.lines.reading import ONE, Stakes
 from stakeplay.pages.series import Series, Steps
 from stakeplay.sheets.moves import Move, Moves
 
 Json = dict[str, Any]
 T = TypeVar("T")
-UNITS, COUNT, LINE, PART, SERIES = range(5)     # of a validator's tally: units, lines, the last of them, the last part
-NO_PART: list[Any] = [-1, 0, 0, 0, 0, 0, 0, 0, 0, 0]
 
 
 class Ends(Generic[T]):
@@ -50,11 +49,16 @@ class Totals:
         self.count, self.place, self.height = self.count + 1, place, height
 
 
+def bytes_of(address: str) -> bytes:
+    """The bytes of an address, by which those of equal power are in order."""
+    return bytes.fromhex(address) if HEXADECIMAL.fullmatch(address) else (from_bech32(address) or ("", b""))[1]
+
+
 class Validator:
     """A validator over the run. Amounts that are decimals are in units of 10^-18."""
 
     def __init__(self, address: str, number: int, steps: Steps) -> None:
-        self.address, self.number = address, number
+        self.address, self.number, self.order = address, number, bytes_of(address)
         self.stakes: dict[str, int] = {}        # of each delegator, as their rewards are reckoned on
         self.stake, self.delegators, self.place = 0, 0, 0
         self.is_known = self.stands = False     # whether all stakes are known; whether it is in the run now
@@ -62,7 +66,7 @@ class Validator:
         self.others, self.paid, self.withdrawn, self.burned = Totals(), Totals(), Totals(), Totals()
         self.rate: tuple[str, int, int] | None = None               # the rate of commission, its line, its height
         self.given, self.stake_series, self.rank_series = Series(steps), Series(steps), Series(steps)
-        self.tally: list[Any] = [0, 0, 0, NO_PART, self.given]  # what was allocated of the page's denomination
+        self.units = self.shares = self.share_line = 0     # of the page's denomination: their sum, how many, the last one
         self.missed_series, self.delegator_series, self.rate_series = Series(steps), Series(steps), Series(steps)
         self.withdrawn_series = Series(steps)
         self.slashes = self.came = self.went = 0
@@ -72,12 +76,17 @@ class Validator:
         self.signing: Json = {}
         self.report_place = self.signing_place = 0
 
-    def share(self, value: int, step: int, height: int, place: int) -> None:
-        """A share of a block's fees, of the page's denomination."""
-        self.tally[UNITS] += value
-        self.tally[COUNT] += 1
-        self.tally[LINE] = place
-        self.given.add(step, value, height, place)
+    def take_shares(self, step: int, values: tuple[int, ...], blocks: list[tuple[int, int]], place: int) -> None:
+        """Shares of the fees of some blocks of a step: of each block its height and the line of its first share are told,
+        of which this is the one at `place`."""
+        least, greatest = min(values), max(values)
+        points = []
+        for value, at in ((least, values.index(least)), (greatest, values.index(greatest)), (values[-1], len(values) - 1)):
+            points.append((value, blocks[at][0], blocks[at][1] + place))
+        self.given.merge(step, *points)
+        self.units += sum(values)
+        self.shares += len(values)
+        self.share_line = points[2][2]
 
     def start(self, delegator: str, stake: int) -> None:
         """A delegation's rewards begin, on this stake."""

@@ -11,7 +11,7 @@ import pathlib
 from typing import Any, Iterable
 
 from stakeplay.lines.reading import ONE, bare, shown, units
-from stakeplay.pages.books import COUNT, LINE, UNITS, Asked, Totals, Validator
+from stakeplay.pages.books import Asked, Totals, Validator
 from stakeplay.pages.given import FILES, nanoseconds
 from stakeplay.pages.run import Run
 from stakeplay.pages.series import Series
@@ -120,8 +120,8 @@ class Document:
         """All shares of fees that the validators were given."""
         run, total = self.run, Totals()
         for validator in run.by_text.values():
-            own, others = validator.tally, validator.others
-            parts = [({run.denom or "": own[UNITS]}, own[COUNT], own[LINE]), (others.coins, others.count, others.place)]
+            others = validator.others
+            parts = [({run.denom or "": validator.units}, validator.shares, validator.share_line), (others.coins, others.count, others.place)]
             for coins, count, place in parts:
                 if count:
                     last = max(place, total.place)
@@ -165,9 +165,8 @@ class Document:
             row["until"], row["tombstoned"] = validator.signing["jailed_until"], validator.signing["tombstoned"]
         if validator.rank:
             row["rank"] = validator.rank
-        units, lines, line = validator.tally[:3]
-        allocated = [self.figure(shown(units), run.denom or "", line, run.height_of(line),
-                                 f"the sum of {lines} lines `allocated`, this one the last")] if lines else []
+        line, note = validator.share_line, f"the sum of {validator.shares} lines `allocated`, this one the last"
+        allocated = [self.figure(shown(validator.units), run.denom or "", line, run.height_of(line), note)] if line else []
         row["allocated"] = allocated + self.added(validator.others, "allocated", True)
         row["paid"] = self.added(validator.paid, "paid")
         row["withdrawn"] = self.added(validator.withdrawn, "commission")

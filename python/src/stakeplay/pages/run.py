@@ -8,15 +8,16 @@ report at its end. What two reports, or a genesis and a report, tell otherwise t
 from __future__ import annotations
 
 import json
+import re
 from array import array
 from bisect import bisect_right
 from datetime import datetime, timezone
-from typing import Any, BinaryIO
+from typing import Any, BinaryIO, Iterator
 
 from stakeplay.lines import reading
 from stakeplay.lines.reading import BONDED, COLLECTOR, DISTRIBUTION, ONE, PLACES, Order, Stakes
 from stakeplay.lines.reading import is_shaped, opened, raw, stop, units, whole
-from stakeplay.pages.books import COUNT, LINE, NO_PART, PART, SERIES, UNITS, Asked, Ends, Totals, Validator
+from stakeplay.pages.books import Asked, Ends, Totals, Validator
 from stakeplay.pages.given import FILES, Given, Votes, Window, decimal, nanoseconds
 from stakeplay.pages.series import Series, Steps, Sums
 
@@ -24,7 +25,22 @@ Json = dict[str, Any]
 TELLING = b"create_validator", b"edit_validator", b"update_params", b"\\"    # messages that do what no fact tells
 SCAN = json.JSONDecoder().scan_once
 HEAD, MIDDLE = b'{"coins":[{"amount":"', b'","denom":"%s"}],"height":%d,"kind":"allocated","validator":"'
+BETWEEN = b'"}\n' + HEAD
+AMOUNTS = re.compile(rb"\d+\.\d{18}(?: \d+\.\d{18})*")
 
+
+
+def chunks(file: BinaryIO) -> Iterator[bytes]:
+    """The bytes of a file in whole lines, but for a last one that is cut."""
+    rest = b""
+    while text := file.read(1 << 20):
+        text = rest + text
+        end = text.rfind(b"\n") + 1
+        rest = text[end:]
+        if end:
+            yield text[:end]
+    if rest:
+        yield rest
 
 
 class Run:
@@ -35,7 +51,11 @@ class Run:
         self.chain, self.steps, self.wide = Steps(steps[0]), Steps(steps[1]), Steps(steps[0])
         self.denom, self.bond = denom, None     # type: str | None, str | None
         self.by_text: dict[str, Validator] = {}
-        self.tallies: dict[bytes, list[Any]] = {}   # by how a share's line ends
+        self.by_bytes: dict[bytes, Validator] = {}
+        # the shares that were read since the last step: whose they are, of each block its height and first line, and values
+        self.names, self.share_of = [], []          # type: list[bytes], list[Validator]
+        self.share_blocks, self.share_values = [], []   # type: list[tuple[int, int]], list[list[int]]
+        self.guess = 1 << 14                        # how long the shares of a block may be
         self.votes = Votes()
         self.cons: dict[str, str] = {}              # of an operator
         self.operators: dict[str, Validator] = {}   # by the consensus address, as the report has them
@@ -80,45 +100,65 @@ class Run:
     # ---- reading
 
     def read(self) -> "Run":
-        """Reads the whole output. Most lines are shares of a block's fees, of one denomination: these are read by what
-        they have in common, the text between the amount and the validator."""
-        number = given = step = height = 0
-        middle, tallies = b"}", self.tallies
+        """Reads the whole output."""
+        number = 0
         try:
-            for number, text in enumerate(opened(self.name), 1):
-                front, _, rest = text.partition(middle)
-                tally = tallies.get(rest)
-                if tally is not None and front[:21] == HEAD:
-                    digits = front[21:].replace(b".", b"")
-                    if front[-19:-18] == b"." and digits.isdigit():
-                        value = int(digits)
-                        given += value
-                        tally[UNITS] += value
-                        tally[COUNT] += 1
-                        tally[LINE] = number
-                        part = tally[PART]
-                        if part[0] != step:
-                            tally[PART] = part = tally[SERIES].part(step, value, height, number)
-                        if value < part[1]:
-                            part[1], part[2], part[3] = value, height, number
-                        elif value > part[4]:
-                            part[4], part[5], part[6] = value, height, number
-                        part[7], part[8], part[9] = value, height, number
-                        continue
-                if given:
-                    self.given_of_block += given
-                    self.given_last, given = number - 1, 0
-                self.take(text, number)
-                middle, step, height = self.middle, self.step, self.height
+            for text in chunks(opened(self.name)):
+                place, end = 0, len(text)
+                while place < end:
+                    count, stop_at = self.shares_at(text, place, number)
+                    if not count:
+                        count, stop_at = 1, text.find(b"\n", place) + 1 or end
+                        self.take(text[place:stop_at], number + 1)
+                    number, place = number + count, stop_at
         except Exception:
-            reading.PLACE = number
+            reading.PLACE = number + 1
             raise
         if self.order.part == "nothing":
             stop("nothing was read")
         if self.order.is_cut():
             stop(f"line {number}: the output is cut after this line: the end of its report is missing")
+        self.flush()
         self.lines = number
         return self
+
+    # ---- shares of fees: most lines of a run
+
+    def shares_at(self, text: bytes, place: int, number: int) -> tuple[int, int]:
+        """The shares of the block's fees that stand there, if they are of the page's denomination alone and of validators
+        that were heard of: how many there are, and where they end. They are read together, by what they have in common."""
+        if not text.startswith(HEAD, place) or text.find(self.middle, place, place + 200) < 0:
+            return 0, 0
+        last = text.rfind(self.middle, place, place + self.guess)
+        end = text.find(b"\n", last) + 1
+        words = text[place + len(HEAD):end - 3].replace(self.middle, b" ").replace(BETWEEN, b" ").split(b" ")
+        amounts, names = b" ".join(words[::2]), words[1::2]
+        if not end or text[end - 3:end] != b'"}\n' or len(words) % 2 or not AMOUNTS.fullmatch(amounts):
+            return 0, 0
+        if names != self.names and not self.follow(names):
+            return 0, 0
+        values = list(map(int, amounts.replace(b".", b"").split(b" ")))
+        self.share_blocks.append((self.height, number + 1))
+        self.share_values.append(values)
+        self.given_of_block += sum(values)
+        self.given_last = number + len(values)
+        self.guess = max(1 << 14, 2 * (end - place))
+        return len(values), end
+
+    def follow(self, names: list[bytes]) -> bool:
+        """Goes on to shares of other validators than before, if each was heard of."""
+        self.flush()
+        found = [self.by_bytes.get(name) for name in names]
+        self.names = names if None not in found and len(set(names)) == len(names) else []
+        self.share_of = [validator for validator in found if validator]
+        return bool(self.names)
+
+    def flush(self) -> None:
+        """Hands the shares that were read to their validators."""
+        if self.share_blocks:
+            for place, values in enumerate(zip(*self.share_values)):
+                self.share_of[place].take_shares(self.step, values, self.share_blocks, place)
+            self.share_blocks, self.share_values = [], []
 
     def take(self, text: bytes, number: int) -> None:
         """Judges a line, and tells it to whom it concerns."""
@@ -158,8 +198,8 @@ class Run:
                 if line["delegator"] == asked.address:
                     asked.stakes.at.setdefault(line["validator"], {})[asked.address] = int(line["amount"]) * ONE
                     asked.place = place
-        powers = sorted((-(v.stake // ONE // params["power_reduction"]), v.address) for v in self.by_text.values())
-        bonded = {address for power, address in powers[:params["max_validators"]] if power}
+        powers = sorted((-(v.stake // ONE // params["power_reduction"]), v.order, v.address) for v in self.by_text.values())
+        bonded = {address for power, _, address in powers[:params["max_validators"]] if power}
         tokens = sum(v.stake // ONE for v in self.by_text.values() if v.address in bonded)
         self.votes.windows = {self.cons[address]: Window(self.by_text[address], 0) for address in bonded}
         self.has_stakes = True
@@ -174,7 +214,7 @@ class Run:
         if address not in self.by_text:
             validator = Validator(address, len(self.by_text), self.steps)
             self.by_text[address] = validator
-            self.tallies[address.encode() + b'"}\n'] = validator.tally
+            self.by_bytes[address.encode()] = validator
         return self.by_text[address]
 
     # ---- a block
@@ -200,10 +240,9 @@ class Run:
         self.moments.append(nanoseconds(line["time"]))
         self.block_lines.append(place)
         self.is_telling = None
-        width, self.step, self.is_open = self.steps.width, self.steps.of(self.height), True
-        if width != self.steps.width:
-            for tally in self.tallies.values():
-                tally[PART] = NO_PART
+        if (self.height - self.steps.first) // self.steps.width != self.step:
+            self.flush()
+        self.step, self.is_open = self.steps.of(self.height), True
         self.middle = MIDDLE % ((self.denom or "").encode(), self.height)
         self.given_of_block, self.given_first, self.given_last = 0, place, place
         if self.given.is_there:
@@ -271,14 +310,14 @@ class Run:
         if not 0 < place <= len(ranking) or ranking[place - 1] is not validator:
             return False
         before, after = ranking[place - 2] if place > 1 else None, ranking[place] if place < len(ranking) else None
-        return (before is None or (-before.stake, before.address) < (-validator.stake, validator.address)) and (
-            after is None or (-validator.stake, validator.address) < (-after.stake, after.address))
+        return (before is None or (-before.stake, before.order) < (-validator.stake, validator.order)) and (
+            after is None or (-validator.stake, validator.order) < (-after.stake, after.order))
 
     def rank(self) -> None:
         """The places of the validators by their stakes, the greatest first, of equal ones the lower address."""
         if self.are_ranked and all(map(self.is_ranked, self.stakes_moved)):
             return
-        self.ranking = sorted((v for v in self.by_text.values() if v.stands), key=lambda v: (-v.stake, v.address))
+        self.ranking = sorted((v for v in self.by_text.values() if v.stands), key=lambda v: (-v.stake, v.order))
         self.are_ranked = True
         cause = next(iter(self.stakes_moved)).place
         for place, validator in enumerate(self.ranking, 1):
@@ -331,7 +370,8 @@ class Run:
         if others:
             validator.others.add(others, place, self.height)
         if self.denom in coins:
-            validator.share(coins[self.denom], self.step, self.height, place)
+            self.flush()
+            validator.take_shares(self.step, (coins[self.denom],), [(self.height, place)], 0)
             self.given_of_block += coins[self.denom]
             self.given_last = place
 

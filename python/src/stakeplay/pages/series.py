@@ -41,18 +41,28 @@ class Series:
 
     def add(self, step: int, value: int, height: int, line: Any) -> None:
         """Takes the value of a block."""
-        part = self.part(step, value, height, line)
+        part = self.parts[-1] if self.parts else None
+        if part is None or part[STEP] != step:
+            self.parts.append([step, value, height, line, value, height, line, value, height, line])
+            return
         if value < part[LEAST]:
             part[1:4] = value, height, line
         elif value > part[GREATEST]:
             part[4:7] = value, height, line
         part[7:10] = value, height, line
 
-    def part(self, step: int, value: int, height: int, line: Any) -> list[Any]:
-        """The part of the step, which begins by this value if there is none."""
+    def merge(self, step: int, least: tuple[int, int, Any], greatest: tuple[int, int, Any], last: tuple[int, int, Any]) -> None:
+        """Takes the values of some blocks of a step: the first least, the first greatest and the last of them, each with its
+        height and line."""
         if not self.parts or self.parts[-1][STEP] != step:
-            self.parts.append([step, value, height, line, value, height, line, value, height, line])
-        return self.parts[-1]
+            self.parts.append([step, *least, *greatest, *last])
+            return
+        part = self.parts[-1]
+        if least[0] < part[LEAST]:
+            part[1:4] = least
+        if greatest[0] > part[GREATEST]:
+            part[4:7] = greatest
+        part[7:10] = last
 
     def fold(self) -> None:
         """Makes one step of two neighbours."""
