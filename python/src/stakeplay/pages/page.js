@@ -702,7 +702,7 @@ function visitTable(row) {
       {name: "Delegator", key: visit => visit[3], text: visit => visit[3], cell: visit => address(visit[3])},
       {name: "What", key: visit => visit[2], text: visit => visit[2], cell: visit => el("span", {class: `state ${visit[2] === "came" ? "good" : "warn"}`, text: visit[2]})},
       {name: "Stake", num: true, key: visit => visit[4] ? BigInt(visit[4]) : null, cell: visit => visit[4]
-        ? figure([decimal(visit[4], 18), run.bond, visit[1], visit[0]], "stake of the delegation that began") : el("span", {class: "soft", text: "\u2013"})},
+        ? figure([decimal(visit[4], 18), run.bond, visit[1], visit[0], ...(visit[2] === "came" ? [] : ["what its rewards were reckoned on before"])], visit[2] === "came" ? "stake of the delegation that began" : "stake of the delegation that ended") : el("span", {class: "soft", text: "\u2013"})},
       lineColumn(visit => `${visit[3]} ${visit[2]}`)]}));
 }
 

@@ -77,6 +77,7 @@ class Run:
         self.rate = Sums(self.chain)
         self.marks: Ends[tuple[int, int, str, str]] = Ends(300, 700)
         self.touched: dict[tuple[str, str], tuple[bool, int]] = {}
+        self.left: dict[tuple[str, str], int] = {}  # the stakes of delegations whose rewards were paid in this block
         self.stakes_moved: dict[Validator, None] = {}
         self.counted: dict[Validator, int] = {}
         self.withdrew: dict[Validator, int] = {}
@@ -280,6 +281,7 @@ class Run:
         for (delegator, operator), (was, place) in self.touched.items():
             self.visit(self.by_text[operator], delegator, was, place)
         self.touched.clear()
+        self.left.clear()
         for validator, place in self.counted.items():
             validator.delegator_series.add(step, validator.delegators, height, place)
         self.counted.clear()
@@ -301,7 +303,7 @@ class Run:
             validator.came, validator.went = validator.came + is_there, validator.went + was
             validator.delegators += is_there - was
             self.counted[validator] = place
-            stake = str(validator.stakes[delegator]) if is_there else ""
+            stake = str(validator.stakes[delegator] if is_there else self.left.get((delegator, validator.address), 0) or "")
             validator.visits.add((self.height, place, "came" if is_there else "went", delegator, stake))
 
     def is_ranked(self, validator: Validator) -> bool:
@@ -426,7 +428,9 @@ class Run:
         self.sums["rewards"].add(coins, place, self.height)
         self.changed["rewards"] = place
         self.touch(validator, delegator, True, place)
-        validator.stake -= validator.stakes.pop(delegator, 0)
+        gone = validator.stakes.pop(delegator, 0)
+        validator.stake -= gone
+        self.left[delegator, validator.address] = gone
 
     def commission(self, line: Json, place: int) -> None:
         """Commission is paid."""
