@@ -101,6 +101,25 @@ for words in commands(str(examples / "life.out"))[:2]:
 # ---- whole outputs, and outputs that are not
 
 
+def try_a_day(begun, rest, day):
+    """A day that was resumed, with its own input: behind the report before it its rows are those of the whole run, and alone
+    nothing is drawn that no line tells."""
+    report = b"".join(line for line in begun.splitlines(keepends=True) if b'"height"' not in line)
+    with tempfile.TemporaryDirectory() as room:
+        path, picture = pathlib.Path(room) / "day.jsonl", pathlib.Path(room) / "day.svg"
+        path.write_bytes(day)
+        for words in (["validator_sheet.py", addresses[1]], ["tax_sheet.py", addresses[2]], ["refusals.py"]):
+            whole = tried_here([*words, str(examples / "life.out"), str(examples / "life.jsonl")])[1].splitlines()
+            status, told, err = tried_here([*words, "-", str(path)], report + rest)
+            rows = [row for row in told.splitlines() if re.match(rb"2024-01-(01T00:00:15|22)", row)]
+            ask(status == 0 and rows and rows == whole[-len(rows):] and all(b":10Z" in row or b":05Z" in row for row in whole[1:-len(rows)]),
+                f"{words[0]} on a day behind a report ended with {status}, and its rows are not those of the whole run: {err}")
+        for given, count in ((rest, 1), (report + rest, 3)):
+            status, _, err = tried_here(["validator_sheet.py", addresses[1], "-", str(path), "--svg", str(picture)], given)
+            stake = re.search(r'stroke="#1f77b4" stroke-width="2" points="([^"]*)"', picture.read_text())
+            ask(status == 0 and len(stake[1].split()) == count, f"the picture of a resumed day has a stake of {stake[1]}: {err}")
+
+
 def tries_over_a_store():
     """What the recipes are to say of a run that was stopped and resumed, of its rest alone, and of answers to questions."""
     given = (examples / "life.jsonl").read_bytes().splitlines(keepends=True)
@@ -115,6 +134,7 @@ def tries_over_a_store():
         answers = {f"the answer to {' '.join(words)}": ran([*store, "query", *words])[1] for words in asked}
     ask(b"".join(line for line in begun.splitlines(keepends=True) if b'"height"' in line) + rest == life,
         "a run of the example that is resumed does not write what one whole run does")
+    try_a_day(begun, rest, b"".join(given[3:]))
     outputs = {"a run that was resumed": (begun + rest, "0"), "the rest of a run": (rest, "3")}
     return ([(words, output, 0, name) for name, (output, first) in outputs.items() for words in commands("-", first, "5")]
             + [(words, answer, 0, name) for name, answer in answers.items() if answer for words in commands("-")
@@ -202,7 +222,7 @@ plain = tried_here(sheet)[1].decode().splitlines()
 with tempfile.TemporaryDirectory() as room:
     path = pathlib.Path(room) / "statements"
     for made, more, ending in ((statements, 5, 0), (statements[:1], 4, 0), (statements * 2, 5, 0), ([], 0, 0), (["{}\n"], 0, 2),
-                               ([text.replace('"height":2', '"height":3') for text in statements[:1]], 0, 0)):
+                               ([text.replace('"height":2', '"height":3') for text in statements[:1]], 0, 2)):
         path.write_text("".join(made))
         status, out, err = tried_here([*sheet, f"statements={path}"])
         rows = out.decode().splitlines()

@@ -27,7 +27,7 @@ DECIMAL = re.compile(r"[0-9]{1,38}(?:\.[0-9]{1,18})?", re.ASCII)
 def tally_of(text: bytes) -> dict[str, Fraction]:
     """The totals of the options, and the bonded tokens."""
     try:
-        line = json.loads(text)
+        line = json.loads(text.decode())
         if line["kind"] == "tally" and line.keys() == MEMBERS:
             if all(DECIMAL.fullmatch(line[name]) for name in MEMBERS - {"kind"}):
                 return {name: Fraction(line[name]) for name in MEMBERS - {"kind"}}

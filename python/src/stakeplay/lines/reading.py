@@ -96,7 +96,7 @@ class Order:
         return self.part == "block" or self.part == "report" and (self.height is not None or self.group != "supply")
 
 
-PLACE = 0  # of the line that is read, from 1
+PLACE = 0  # of the line that was read last, from 1; a recipe reads one output
 
 
 def lines(name: str) -> Iterator[Json]:
@@ -107,30 +107,31 @@ def lines(name: str) -> Iterator[Json]:
 def lines_of(texts: Iterable[bytes]) -> Iterator[Json]:
     """The lines of a whole output that was opened."""
     global PLACE
-    order = Order()
-    for PLACE, text in enumerate(texts, 1):
+    order, place = Order(), 0
+    for place, text in enumerate(texts, 1):
+        PLACE = place
         if not text.endswith(b"\n"):
-            stop(f"line {PLACE}: the output is cut in this line")
-        if PLACE == 1 and text.startswith(GZIP):
+            stop(f"line {place}: the output is cut in this line")
+        if place == 1 and text.startswith(GZIP):
             stop("the output is compressed; `gunzip` gives its lines")
-        yield judged(text, order)
+        yield judged(text, order, place)
     if order.part == "nothing":
         stop("nothing was read")
     if order.is_cut():
-        stop(f"line {PLACE}: the output is cut after this line: the end of its report is missing")
+        stop(f"line {place}: the output is cut after this line: the end of its report is missing")
 
 
-def judged(text: bytes, order: Order) -> Json:
+def judged(text: bytes, order: Order, place: int) -> Json:
     """A line as an object, which has the members of its kind and stands where it may."""
     try:
-        line = json.loads(text)
+        line = json.loads(text.decode())
         is_line = is_shaped(line["kind"], line)
     except (ValueError, TypeError, KeyError, AttributeError, RecursionError):
         is_line = False
     if not is_line:
-        stop(f"line {PLACE}: this is no line of stakeplay's output")
+        stop(f"line {place}: this is no line of stakeplay's output")
     if fault := order.take(line["kind"], line):
-        stop(f"line {PLACE}: {fault}")
+        stop(f"line {place}: {fault}")
     return line
 
 
@@ -197,7 +198,7 @@ class Input:
             if self.held:
                 line, self.held = self.held, None
             else:
-                line = json.loads(self.file.readline())
+                line = json.loads(self.file.readline().decode())
             if isinstance(line, dict):
                 return line
         except (ValueError, RecursionError):
@@ -226,7 +227,7 @@ class Input:
         """Goes on to a line of the output, and holds its block against that of the input."""
         try:
             if kind == "genesis":
-                is_other = not self.genesis or supply_of(self.genesis) != whole(line["supply"])
+                is_other = self.genesis is not None and supply_of(self.genesis) != whole(line["supply"])
             elif kind == "block" and self.has(line["height"]):
                 is_other = plain_time(self.at(line["height"])["time"]) != line["time"]
             elif kind in OUTCOMES and self.has(line["height"]):
@@ -270,10 +271,12 @@ def plain_time(text: str) -> str:
 class Stakes:
     """The stakes of those delegations that are wanted, as their lines tell them, and what slashes take of them.
 
-    A stake of the genesis has no line: it is known from the input, or from its next start on."""
+    A stake of the genesis has no line: it is known from the input, from its next start on, or from a report on, where it
+    is the value of the delegation's shares."""
 
     def __init__(self, wants, given=None):
         self.wants, self.at, self.slashes, self.touched = wants, {}, [], None
+        self.worth = {}     # by validator: the tokens and the shares that a report tells
         for line in given.genesis["delegations"] if given and given.genesis else ():
             if wants(line["delegator"], line["validator"]):
                 self.at.setdefault(line["validator"], {})[line["delegator"]] = int(line["amount"]) * ONE
@@ -301,6 +304,12 @@ class Stakes:
             return [(*part, line["denom"]) for part in told]
         elif kind == "removed":
             self.at.pop(line["validator"], None)
+        elif kind == "validator":
+            self.worth[line["operator"]] = int(line["tokens"]), raw(line["shares"])
+        elif kind == "delegation" and self.wants(line["delegator"], line["validator"]) and line["validator"] in self.worth:
+            tokens, shares = self.worth[line["validator"]]
+            value = raw(line["shares"]) * tokens * ONE // shares
+            self.at.setdefault(line["validator"], {}).setdefault(line["delegator"], value)
         elif kind in OUTCOMES or kind == "block":
             self.slashes, self.touched = [], None
         return []

@@ -15,13 +15,17 @@ block is read. Memory does not grow with the range.
 from __future__ import annotations
 
 import argparse
+import base64
+import binascii
 import gc
+import hashlib
 import json
+import os
 import shutil
 import sys
 import tempfile
 import time
-from typing import Any, Iterator
+from typing import Any, Iterator, TextIO
 
 from stakeplay.calling import Parser, a_height
 from stakeplay.node.answers import Answers, Folder, Pages, length
@@ -107,22 +111,35 @@ def punished(cons: Value, height: Value, value: Value, power: Value) -> Json:
 
 # ---- blocks
 
-def block_transactions(answers: Answers) -> Iterator[Json]:
+def block_transactions(answers: Answers) -> Iterator[list[Json]]:
     """The transactions of a block, decoded, with their results."""
     results, sent = answers.results.member("txs_results"), length(answers.block.at("data.txs"))
     if not length(results) == sent == len(answers.txs.raw):
         there = f"there are {sent} transactions, {len(answers.txs.raw)} of them decoded"
         results.fail(f"has {length(results)} elements, and {there}", "txs")
     for tx, result in zip(answers.txs.elements(), results.elements(or_null=True)):
-        yield from transactions(tx, result)
+        yield transactions(tx, result)
 
 
-def block_line(answers: Answers, voters: Voters, own: Beginning, following: Beginning | None) -> str:
+def hash_of(sent: Value) -> str:
+    """The hash of a transaction, whose bytes a block has in base64."""
+    try:
+        return hashlib.sha256(base64.b64decode(sent.text(), validate=True)).hexdigest().upper()
+    except (binascii.Error, ValueError):
+        sent.fail("is not in base64", "txs")
+
+
+def block_line(answers: Answers, voters: Voters, own: Beginning, following: Beginning | None,
+               hashes: TextIO | None = None) -> str:
     """The line of a block; what the next block mints is paid at its end, since no line can do so at a beginning."""
     header = answers.block.member("header")
     txs = list(own.fee("at the beginning of this line")) if answers.height == 1 else []
     txs += own.transactions()
-    txs += block_transactions(answers)
+    sent = answers.block.at("data.txs").elements(or_null=True) if hashes else []
+    for place, made in enumerate(block_transactions(answers)):
+        if hashes:
+            hashes.write(f"{answers.height},{len(txs)},{hash_of(sent[place])}\n")
+        txs += made
     txs += end(answers.results).transactions()
     if following:
         txs += following.fee(f"at the end of line {answers.height}")
@@ -147,7 +164,7 @@ class EvidenceParameters:
         self.last = now.raw if now else self.last
 
 
-def lines(folder: Folder, first: int, last: int) -> Iterator[str]:
+def lines(folder: Folder, first: int, last: int, hashes: TextIO | None = None) -> Iterator[str]:
     """The lines of a range of blocks."""
     parameters, voters = EvidenceParameters(), Voters()
     folder.begin(first)
@@ -160,7 +177,7 @@ def lines(folder: Folder, first: int, last: int) -> Iterator[str]:
         parameters.follow(answers.results)
         results = folder.results(height + 1)
         following = beginning(results) if results else None
-        text = block_line(answers, voters, own, following)
+        text = block_line(answers, voters, own, following, hashes)
         if len(text) > MOST_BYTES:
             stop("limit", f"block_{height}.json: its line has {len(text)} bytes, and may have {MOST_BYTES}")
         yield text + "\n"
@@ -173,6 +190,7 @@ def arguments() -> argparse.Namespace:
     parser.add_argument("folder", metavar="FOLDER", help="the folder with the answers of a node")
     parser.add_argument("first", metavar="FIRST", type=a_height, nargs="?", help="the first height of the range")
     parser.add_argument("last", metavar="LAST", type=a_height, nargs="?", help="the last one; without both, all blocks")
+    parser.add_argument("--hashes", metavar="FILE", help="where the hash of each transaction goes, by height and place")
     parser.add_argument("--at-once", action="store_true", help="write each line as soon as its block is read")
     words = parser.words()
     if words.first is not None and (words.last is None or not 1 <= words.first <= words.last):
@@ -190,13 +208,9 @@ def watched(texts: Iterator[str], most: int) -> Iterator[str]:
             print(f"from_blocks.py: {count} of {most} blocks, {speed:.0f} a second", file=sys.stderr)
 
 
-def main() -> None:
-    """Writes the lines of a range, and then how many notes of each code there were."""
-    words = arguments()
-    folder = Folder(words.folder)
-    first, last = (words.first, words.last) if words.first else folder.heights()
-    texts = watched(lines(folder, first, last), last - first + 1)
-    if words.at_once:
+def write(texts: Iterator[str], is_at_once: bool) -> None:
+    """Writes lines: all of them or none, or each as soon as it is made."""
+    if is_at_once:
         sys.stdout.writelines(texts)
     else:
         with tempfile.TemporaryFile("w+") as held:
@@ -204,6 +218,17 @@ def main() -> None:
             held.seek(0)
             shutil.copyfileobj(held, sys.stdout)
     sys.stdout.flush()
+
+
+def main() -> None:
+    """Writes the lines of a range, and then how many notes of each code there were."""
+    words = arguments()
+    folder = Folder(words.folder)
+    first, last = (words.first, words.last) if words.first else folder.heights()
+    with open(os.devnull if words.hashes is None else words.hashes, "w", encoding="ascii") as hashes:
+        hashes.write("height,tx,hash\n")
+        told_hashes = None if words.hashes is None else hashes
+        write(watched(lines(folder, first, last, told_hashes), last - first + 1), words.at_once)
     for (word, code), count in sorted(told.items()):
         if word == "note":
             print(f"total {code} {count}", file=sys.stderr)

@@ -37,7 +37,7 @@ def read_words() -> argparse.Namespace:
                         help="the tokens of one unit of power, a constant of the chain's program (1000000)")
     reader.add_argument("--genesis", action="store_true", help="write the genesis line of a chain that has not begun")
     words = reader.words()
-    if words.genesis and (words.store or words.head or words.next):
+    if words.genesis and (words.store, words.head, words.next) != (None, None, None):
         reader.error("--genesis writes a line: it takes no STORE, --head or --next")
     if not words.genesis and not (words.store and words.head):
         reader.error("a STORE and --head BLOCK are needed, or --genesis")
@@ -127,7 +127,7 @@ def make_store(words: argparse.Namespace) -> None:
     judge.judge()
     judge.settle_accounts()
     fill_reserve(export.state, words.reserve)
-    if words.next:
+    if words.next is not None:
         pay_ahead(export.state, read_answer(words.next, document.prefix))
     write_store(words.store, export.state)
 

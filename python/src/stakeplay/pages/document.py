@@ -268,11 +268,11 @@ class Document:
 def page(document: Document, most: int) -> str:
     """The text of the file; the validators' steps are made wider until it has at most so many bytes."""
     run = document.run
-    frame = {name: (HERE / name).read_text(encoding="utf-8") for name in ("page.html", "page.css", "page.js")}
+    frame = {name: (HERE / name).read_text(encoding="utf-8") for name in ("page.html", "page.css", "page.js", "page_parts.js")}
     while True:
         figures = json.dumps(document.data(), separators=(",", ":"), ensure_ascii=True).replace("<", "\\u003c")
         whole = frame["page.html"].replace("{{title}}", html.escape(f"stakeplay: blocks {run.first_height} to {run.height}"))
-        for mark, text in (("{{style}}", frame["page.css"]), ("{{script}}", frame["page.js"]), ("{{figures}}", figures)):
+        for mark, text in (("{{style}}", frame["page.css"]), ("{{script}}", frame["page.js"] + "\n" + frame["page_parts.js"]), ("{{figures}}", figures)):
             before, after = whole.split(mark)
             whole = before + text + after
         if len(whole.encode()) <= most or run.steps.width >= len(run.moments):

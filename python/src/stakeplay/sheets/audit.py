@@ -463,13 +463,13 @@ class Audit:
 def main(output, first=None):
     audit = Audit()
     try:
-        if first:
+        if first is not None:
             with open(first, "rb") as file:
-                audit.begin_with(json.loads(file.readline()))
+                audit.begin_with(json.loads(file.readline().decode()))
         for audit.place, text in enumerate(sys.stdin.buffer if output == "-" else open(output, "rb"), 1):
             if not text.endswith(b"\n"):
                 stop(f"line {audit.place}: the output is cut in this line")
-            audit.take(json.loads(text))
+            audit.take(json.loads(text.decode()))
     except BrokenPipeError:
         raise
     except OSError as fault:

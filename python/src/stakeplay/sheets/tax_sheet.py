@@ -53,17 +53,22 @@ def statements_of(name):
     made = {}
     for number, line in enumerate(opened(name), 1):
         try:
-            s = json.loads(line)
+            s = json.loads(line.decode())
             [units(s[member]) for member in ("reward", "low", "high", "slack")]
             made.setdefault((s["delegator"], s["validator"], s["height"]), []).append(s)
-        except (ValueError, TypeError, KeyError):
+        except (ValueError, TypeError, KeyError, AttributeError, RecursionError):
             stop(f"{name}: line {number} is no statement")
     return made
 
 
+def is_same(s, other):
+    """Whether two statements are one."""
+    return all(s[member] == other[member] for member in ("reward", "low", "high", "slack"))
+
+
 class Sheet:
     def __init__(self, address, given, statements, asked):
-        self.statements, self.asked = statements, asked
+        self.statements, self.asked, self.stated, self.first = statements, asked, [], None
         self.address, self.given, self.out = address, given, csv.writer(sys.stdout, lineterminator="\n")
         self.time = self.height = ""
         self.payer, self.waiting = None, {}  # who paid this transaction's fee; coins whose reason comes a line later
@@ -91,6 +96,7 @@ class Sheet:
 
     def block(self, line):
         self.time, self.height, self.payer = line["time"], line["height"], None
+        self.first = self.height if self.first is None else self.first
 
     def transfer(self, line):
         coins, me = whole(line["coins"]), self.address
@@ -120,9 +126,18 @@ class Sheet:
         made = self.statements.get((line["delegator"], line["validator"], line["height"]), [])
         for s in [s for s in made if units(s["reward"]) == units(line["reward"])][:1]:
             made.remove(s)
+            self.stated.append(s)
             for member, what in ("reward", "reward"), ("low", "at least"), ("high", "at most"), ("slack", "slack"):
                 coins = {denom: shown(amount) for denom, amount in units(s[member]).items()}
                 self.row("stated " + what, "aside", coins, line["validator"])
+
+    def end(self):
+        """A statement of the address and a height of the run has to be one of a payment."""
+        self.asked.end()
+        for (delegator, _, height), made in self.statements.items():
+            left = [s for s in made if not any(is_same(s, other) for other in self.stated)]
+            if left and delegator == self.address and self.first is not None and self.first <= height <= self.height:
+                stop(f"a statement of height {height} is of no payment of this run")
 
     def commission(self, line):
         if line["to"] == self.address:
@@ -177,10 +192,10 @@ def main() -> None:
         return
     asked = Asked([words.address], allow_unknown=words.allow_unknown)
     statements = statements_of(words.statements) if words.statements is not None else {}
-    sheet = Sheet(words.address, Input(words.input) if words.input else None, statements, asked)
+    sheet = Sheet(words.address, Input(words.input) if words.input is not None else None, statements, asked)
     for line in lines(words.output):
         sheet.take(line)
-    asked.end()
+    sheet.end()
 
 
 def command() -> None:

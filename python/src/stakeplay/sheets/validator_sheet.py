@@ -121,7 +121,7 @@ class Sheet:
         self.status = self.jailed = self.outstanding = self.commission = self.rate = self.cons = None
         self.tells = {"allocated": self.allocated, "paid": self.paid, "commission": self.withdrawn,
                       "slashed": self.slashed, "period": self.period, "status": self.changed, "jailed": self.jail,
-                      "unjailed": self.jail, "removed": self.removed, "delegation": self.delegated}
+                      "unjailed": self.jail, "removed": self.removed}
         self.out.writerow(COLUMNS)
         for line in genesis["validators"] if genesis else ():
             if line["operator"] == operator:
@@ -172,7 +172,8 @@ class Sheet:
         if row is None or not self.known:
             return
         stake = sum(self.stakes.at.get(self.operator, {}).values()) if self.has_stakes else None
-        self.picture.add(row.get("height", 0), stake, row.get("allocated", {}))
+        if "height" in row:
+            self.picture.add(row["height"], stake, row["allocated"])
         row |= {"status": self.status, "jailed": {True: "yes", False: "no"}.get(self.jailed),
                 "outstanding": text_of(self.outstanding), "commission": text_of(self.commission),
                 "stake": None if stake is None else shown(stake)}
@@ -238,7 +239,7 @@ class Sheet:
 
     def reported(self, line):
         """What a report tells is held against what was reckoned, and goes into the row of its block."""
-        self.known, self.cons, self.tokens, self.shares = True, line["cons"], int(line["tokens"]), raw(line["shares"])
+        self.known, self.cons = True, line["cons"]
         for name in ("outstanding", "commission"):
             before, told = getattr(self, name), units(line[name])
             if before is not None and {n: a for n, a in before.items() if a} != told:
@@ -249,12 +250,6 @@ class Sheet:
         self.row = self.row or {}
         self.row |= {"tokens": line["tokens"], "shares": line["shares"]}
         self.status, self.jailed, self.rate = line["status"], line["jailed"], raw(line["rate"]) if self.given else None
-
-    def delegated(self, line):
-        """The stake of a delegation in a report is the value of its shares, where no line told its start."""
-        if not self.has_stakes:
-            value = raw(line["shares"]) * self.tokens * ONE // self.shares
-            self.stakes.at.setdefault(self.operator, {}).setdefault(line["delegator"], value)
 
 
 def arguments() -> argparse.Namespace:
@@ -272,7 +267,7 @@ def main() -> int:
     """Writes the sheet and the picture."""
     words = arguments()
     asked = Asked([words.operator], is_operator=True, allow_unknown=words.allow_unknown)
-    sheet = Sheet(words.operator, Input(words.input) if words.input else None, asked)
+    sheet = Sheet(words.operator, Input(words.input) if words.input is not None else None, asked)
     for line in lines(words.output):
         sheet.take(line)
     sheet.close()

@@ -136,7 +136,7 @@ def main(words, addr=form("[0-9a-f]{40}", lambda digits: user(int(digits, 16))))
     n = 0
     for n, line in enumerate(sys.stdin.buffer if words[-1:] == ["-"] else open(words[-1], "rb"), 1):
         try:
-            s = members(json.loads(line, parse_int=lambda d: float(d) if d[0] == "-" else int(d)), table)
+            s = members(json.loads(line.decode(), parse_int=lambda d: float(d) if d[0] == "-" else int(d)), table)
             if not is_span(s["entries"]):
                 raise Bad(130)
             print('{"kind":"checked","line":%d,"yes":%s}' % (n, str(is_right(s)).lower()), flush=True)
