@@ -10,10 +10,11 @@ import time
 
 SECONDS = 900  # after which a check that has not ended is failed
 # the checks, those that take longest first
-CHECKS = {name: ["bash", f"checks/{name}.sh"] for name in
-          "recipes stores statements pages words repository lemmas cases lines pipes trials caught release".split()}
+CHECKS = {name: ["bash", f"checks/{name}.sh"] if name != "wrong_calls" else [sys.executable, "-B", f"checks/{name}.py"] for name in
+          "recipes stores wrong_calls statements pages words repository lemmas cases lines pipes trials caught release".split()}
 # what a check counts: `NAME: 12 answers compared, 0 differ`
-COUNTED = re.compile(r"^[\w/]+: (?:\d+ \w+, )?(\d+) [a-z ]+, (\d+) (?:differ|not )", re.M)
+COUNTED = re.compile(r"^(?:[\w/]+: )?(?:\d+ \w+, )?(\d+) [a-z ]+, (\d+) (?:differ|not |ended )", re.M)
+BREAK = " \\"  # what ends a line of a command that goes on
 LEFT_OUT = re.compile(r"^.*\b(?:left out\b|passed over, since).*$", re.M)
 
 
@@ -63,7 +64,7 @@ def main(names: list[str]) -> int:
         results = list(pool.map(lambda name: played(name, printing), names or CHECKS))
     left_out = [line for result in results for line in result.left_out]
     for line in left_out:
-        print(f"all: LEFT OUT: {line}")
+        print(f"all: LEFT OUT: {line.rstrip(BREAK)}")
     failed = sum(result.failed for result in results)
     print(f"{sum(result.passed for result in results)} passed, {failed} failed")
     return 1 if failed else 0

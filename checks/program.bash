@@ -30,6 +30,7 @@ elif built="$(unpacked_program "$PWD")"; then
         kind=released
     fi
 fi
+[ -z "$built" ] || export STAKEPLAY="$built"
 
 # What is said of the program.
 told_program() {
@@ -48,5 +49,4 @@ need_program() {
         echo "$1: not run, since there is no program: it is not built here, and the released one is for x86-64 Linux"
         exit 1
     fi
-    export STAKEPLAY="$built"
 }

@@ -51,6 +51,7 @@ shown="$(sed -n '/^```rust$/,/^```$/{/^```/d;p}' docs/THEOREM.md)"
     || say "docs/THEOREM.md shows another contract of run than crates/run_app/src/running.rt has"
 # pages and tables that scripts make are what they would make now
 python3 checks/tables.py --check || bad=1
+python3 checks/schemas.py --check || bad=1
 python3 checks/reading.py --check || bad=1
 python3 checks/map.py --check || bad=1
 python3 checks/counts.py || bad=1

@@ -207,7 +207,7 @@ def end_checks() -> None:
 
 def checked(edit: Edit, texts: dict[str, str]) -> tuple[int, list[str]]:
     """Checks the function in a copy of the crate that has the edit: its status, and the lines that it wrote."""
-    with tempfile.TemporaryDirectory(prefix="wrong-body-") as room:
+    with tempfile.TemporaryDirectory(prefix=f"wrong-body-{edit.path.stem}-") as room:
         for part in PARTS:
             if (CRATES / edit.crate / part).is_dir():
                 shutil.copytree(CRATES / edit.crate / part, pathlib.Path(room, part))
@@ -236,7 +236,9 @@ def unread(line: str, texts: dict[str, str]) -> bool:
 
 def judged(edit: Edit, texts: dict[str, str], status: int, lines: list[str]) -> str:
     """Why the check refused the edit; anything but a refusal for want of a proof is a fault."""
-    told = next((line for line in lines if PLACED.match(line) and ": error" in line), lines[0])[:200]
+    own = f"fn {edit.crate}::{edit.function}: "
+    told = next((line for line in lines if PLACED.match(line) and ": error" in line),
+                next((line for line in lines if line.startswith(own)), lines[-1]))[:200]
     if status == 0:
         raise Fault("NOT REFUSED: the function is still proved with it")
     if status < 0:

@@ -14,8 +14,8 @@ The program is the one that `.ci/run` built, or that the variable STAKEPLAY name
 import argparse, pathlib, random, re, shutil, subprocess, sys, tempfile
 
 TOP = pathlib.Path(__file__).resolve().parents[2]
-sys.path[:0] = [str(TOP / "bench/outside"), str(TOP / "examples/recipes")]
-from first_format import first_format
+sys.path[:0] = [str(TOP / "bench/outside"), str(TOP / "python/src")]
+from stakeplay.stores.first_format import first_format
 from runs import PROGRAM, rows_of
 
 VALIDATORS = 100

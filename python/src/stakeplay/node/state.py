@@ -13,7 +13,7 @@ import tempfile
 from dataclasses import dataclass, field, fields
 from typing import Any, Callable, Iterator
 
-from node_data import SECOND, Coins, stop
+from stakeplay.node.data import SECOND, Coins, stop
 
 Address = bytes           # 20 bytes
 Denom = str               # a byte of length and its letters

@@ -10,9 +10,9 @@ from collections import Counter, defaultdict
 from dataclasses import dataclass, field
 from typing import Any, Iterator, NoReturn
 
-from node_data import (AUTHORITY, BONDED, COLLECTOR, DISTRIBUTION, MODULE_ACCOUNTS, MODULES, NOT_BONDED, RESERVE, Coins,
+from stakeplay.node.data import (AUTHORITY, BONDED, COLLECTOR, DISTRIBUTION, MODULE_ACCOUNTS, MODULES, NOT_BONDED, RESERVE, Coins,
                        Value, coins_json, coins_text, look, note)
-from node_events import BANK_KINDS, BankEvent, Moved, attributes, is_mint, moves
+from stakeplay.node.events import BANK_KINDS, BankEvent, Moved, attributes, is_mint, moves
 
 Json = dict[str, Any]
 

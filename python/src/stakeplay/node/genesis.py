@@ -5,11 +5,11 @@ import json
 from dataclasses import dataclass, fields
 from typing import Any
 
-from node_data import (BONDED, CHAIN_OF_HERE, COLLECTOR, DISTRIBUTION, MOST_WHOLE, NOT_BONDED, ONE, RESERVE, Coins,
+from stakeplay.node.data import (BONDED, CHAIN_OF_HERE, COLLECTOR, DISTRIBUTION, MOST_WHOLE, NOT_BONDED, ONE, RESERVE, Coins,
                        Value, coins_json, coins_text, decimal_text, look, moment_text, stop)
-from node_export import keyed, read_balances, read_params, read_validator
-from node_sound import FRACTIONS, ask_ranges, commission_fault
-from node_state import UNBONDED_STATUS, Params
+from stakeplay.node.export import keyed, read_balances, read_params, read_validator
+from stakeplay.node.sound import FRACTIONS, ask_ranges, commission_fault
+from stakeplay.node.state import UNBONDED_STATUS, Params
 
 MOST_BYTES = 4_194_304    # of a line
 RAN = {  # lists that are empty where a chain has not begun, by module

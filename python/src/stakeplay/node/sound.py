@@ -8,9 +8,9 @@ from __future__ import annotations
 from collections import Counter
 from typing import Iterable, NoReturn
 
-from node_data import BONDED, DISTRIBUTION, NOT_BONDED, ONE, RESERVE, SECOND, Coins, Value, coins_text, look, stop
-from node_export import Export, powers_of
-from node_state import BONDED_STATUS, UNBONDED_STATUS, Entry, Params, State, Validator
+from stakeplay.node.data import BONDED, DISTRIBUTION, NOT_BONDED, ONE, RESERVE, SECOND, Coins, Value, coins_text, look, stop
+from stakeplay.node.export import Export, powers_of
+from stakeplay.node.state import BONDED_STATUS, UNBONDED_STATUS, Entry, Params, State, Validator
 
 MOST_HEIGHT = 2 ** 63 - 1
 MOST_SECONDS = 10 ** 9

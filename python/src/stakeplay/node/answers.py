@@ -14,7 +14,7 @@ import re
 from dataclasses import dataclass
 from typing import Any, Callable
 
-from node_data import Prefix, Stop, Value, read_answer, read_document, stop
+from stakeplay.node.data import Prefix, Stop, Value, read_answer, read_document, stop
 
 BLOCK_VERSION = "11"
 _HASH = re.compile("[0-9A-F]{64}")

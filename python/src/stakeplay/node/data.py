@@ -11,7 +11,6 @@ from __future__ import annotations
 
 import base64
 import binascii
-import functools
 import hashlib
 import json
 import os
@@ -21,6 +20,9 @@ from collections import Counter
 from dataclasses import dataclass, field
 from datetime import datetime, timedelta
 from typing import Any, Callable, NoReturn
+
+from stakeplay.addresses import MODULES, bech32, from_bech32
+from stakeplay.calling import Fault, ended
 
 ONE = 10 ** 18            # the units of a decimal in one whole
 SECOND = 10 ** 9          # the nanoseconds of a second
@@ -32,7 +34,7 @@ Coins = dict[str, int]  # by denomination: an amount, or the units of a decimal
 
 # ---- what is told
 
-class Stop(Exception):
+class Stop(Fault):
     """Why a recipe refuses its input."""
 
     def __init__(self, code: str, text: str):
@@ -76,64 +78,15 @@ def run(main: Callable[[], int | None]) -> NoReturn:
         sys.exit(2)
     except BrokenPipeError:
         os.dup2(os.open(os.devnull, os.O_WRONLY), 1)
-        sys.exit(1)
+        sys.exit(2)
+    except Fault as fault:
+        ended(str(fault))
+    except KeyboardInterrupt:
+        sys.exit(130)
     except OSError as fault:
         print(f"stop file: {fault.filename or 'the output'}: {fault.strerror}", file=sys.stderr)
         sys.exit(2)
     sys.exit(max(status, 1 if _looked else 0))
-
-
-# ---- bech32 (BIP 173)
-
-LETTERS = "qpzry9x8gf2tvdw0s3jn54khce6mua7l"
-_VALUES = bytes.maketrans(LETTERS.encode(), bytes(range(32)))
-_DIGITS = str.maketrans(LETTERS, "0123456789abcdefghijklmnopqrstuv")       # those of `int(text, 32)`
-_OF_BASE32 = bytes.maketrans(b"ABCDEFGHIJKLMNOPQRSTUVWXYZ234567", LETTERS.encode())
-_BECH32 = re.compile(f"([!-@\\[-~]{{1,83}})1([{LETTERS}]{{6,}})")
-_GENERATOR = 0x3B6A57B2, 0x26508E6D, 0x1EA119FA, 0x3D4233DD, 0x2A1462B3
-
-
-def _sum_of(top: int) -> int:
-    total = 0
-    for place, term in enumerate(_GENERATOR):
-        total ^= term if top >> place & 1 else 0
-    return total
-
-
-_SUMS = [_sum_of(top) for top in range(32)]
-
-
-def _checksum(values: bytes, check: int = 1) -> int:
-    for value in values:
-        check = (check & 0x1FFFFFF) << 5 ^ value ^ _SUMS[check >> 25]
-    return check
-
-
-@functools.lru_cache(maxsize=64)
-def _begun(prefix: str) -> int:
-    """The checksum behind a prefix."""
-    return _checksum(bytes([ord(letter) >> 5 for letter in prefix] + [0] + [ord(letter) & 31 for letter in prefix]))
-
-
-def bech32(prefix: str, address: bytes) -> str:
-    """The text of an address."""
-    letters = base64.b32encode(address).rstrip(b"=").translate(_OF_BASE32)
-    check = _checksum(letters.translate(_VALUES) + bytes(6), _begun(prefix)) ^ 1
-    return f"{prefix}1{letters.decode()}" + "".join(LETTERS[check >> 5 * place & 31] for place in (5, 4, 3, 2, 1, 0))
-
-
-@functools.lru_cache(maxsize=1 << 16)
-def from_bech32(text: str) -> tuple[str, bytes] | None:
-    """The prefix and the bytes of a text; nothing where it is no bech32 in small letters."""
-    found = _BECH32.fullmatch(text)
-    if not found or _checksum(found[2].encode().translate(_VALUES), _begun(found[1])) != 1:
-        return None
-    digits = found[2][:-6].translate(_DIGITS)
-    size, spare = divmod(len(digits) * 5, 8)
-    bits = int(digits or "0", 32)
-    if spare >= 5 or bits & (1 << spare) - 1:
-        return None
-    return found[1], (bits >> spare).to_bytes(size, "big")
 
 
 # ---- addresses
@@ -143,7 +96,6 @@ def hash_address(text: bytes) -> bytes:
     return hashlib.sha256(text).digest()[:20]
 
 
-MODULES = "fee_collector", "bonded_tokens_pool", "not_bonded_tokens_pool", "distribution"
 COLLECTOR, BONDED, NOT_BONDED, DISTRIBUTION = (bytes(19) + bytes([place]) for place in (1, 2, 3, 4))
 MODULE_ACCOUNTS = COLLECTOR, BONDED, NOT_BONDED, DISTRIBUTION
 HERE_OF_CHAIN = {hash_address(name.encode()): here for name, here in zip(MODULES, MODULE_ACCOUNTS)}

@@ -6,7 +6,7 @@ from __future__ import annotations
 from collections import Counter
 from typing import Any, Iterator, NamedTuple
 
-from node_data import COLLECTOR, MODULE_ACCOUNTS, MOST_WHOLE, RESERVE, Coins, Value, coins_of
+from stakeplay.node.data import COLLECTOR, MODULE_ACCOUNTS, MOST_WHOLE, RESERVE, Coins, Value, coins_of
 
 
 class Moved(NamedTuple):

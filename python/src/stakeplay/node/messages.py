@@ -8,9 +8,9 @@ from __future__ import annotations
 from dataclasses import dataclass
 from typing import Callable
 
-from node_data import COLLECTOR, RESERVE, Coins, Value, coins_json, coins_of, coins_text, decimal_text, note
-from node_events import BANK_KINDS, attribute, attributes, bank_event
-from node_flows import Flows, Json, picked, transaction
+from stakeplay.node.data import COLLECTOR, RESERVE, Coins, Value, coins_json, coins_of, coins_text, decimal_text, note
+from stakeplay.node.events import BANK_KINDS, attribute, attributes, bank_event
+from stakeplay.node.flows import Flows, Json, picked, transaction
 
 Places = tuple[int, ...]    # the place of a message within the message that carries it out, and so on inwards
 

@@ -1,16 +1,20 @@
-"""Reads the output lines of stakeplay for the recipes of this folder, and judges whether they are a whole output.
+"""Reads the output lines of stakeplay, and judges whether they are a whole output.
 
-`lines(name)` gives the lines as objects, one by one. It ends the program with status 2 and a sentence where a line is
-cut or of another program, where a block does not follow the one before, or where the end is missing. After a report
-the next blocks and their report may stand, and before the first line of a run or alone an answer: lines of the
-report's kinds.
+`lines(name)` gives the lines as objects, one by one. It raises a `Fault` where a line is cut or of another program,
+where a block does not follow the one before, or where the end is missing. After a report the next blocks and their
+report may stand, and before the first line of a run or alone an answer: lines of the report's kinds.
 """
-import json
-import os
-import sys
+from __future__ import annotations
 
+import json
+from typing import Any, Callable, Iterable, Iterator, NoReturn
+
+from stakeplay import calling
+from stakeplay.addresses import MODULES, bare  # noqa: F401
+from stakeplay.calling import GZIP, opened, stop
+
+Json = dict[str, Any]
 ONE = 10 ** 18
-MODULES = "fee_collector", "bonded_tokens_pool", "not_bonded_tokens_pool", "distribution"
 COLLECTOR, BONDED, NOT_BONDED, DISTRIBUTION = MODULES
 
 FACTS = {
@@ -34,21 +38,6 @@ MEMBERS = {kind: frozenset(("kind " + names).split()) for kind, names in REPORT.
 MEMBERS |= {kind: frozenset(("height kind " + names).split()) for kind, names in (FACTS | OUTCOMES).items()}
 MEMBERS |= {"genesis": frozenset(("height", "kind", "supply")), "block": frozenset(("height", "kind", "time"))}
 MORE = {"refused": ({"msg"}, {"msg", "until"}, {"msg", "member"}, {"msg", "a", "b", "c", "over"}), "pending": ({"limit"},)}
-
-
-def stop(text):
-    """Says why no more can be told, and ends with status 2."""
-    sys.stdout.flush()
-    print(f"{os.path.basename(sys.argv[0])}: {text}", file=sys.stderr)
-    sys.exit(2)
-
-
-def opened(name):
-    """The file of that name; standard input for `-`."""
-    try:
-        return sys.stdin.buffer if name == "-" else open(name, "rb")
-    except OSError as fault:
-        stop(f"{name}: {fault.strerror}")
 
 
 def is_shaped(kind, line):
@@ -107,45 +96,58 @@ class Order:
         return self.part == "block" or self.part == "report" and (self.height is not None or self.group != "supply")
 
 
-PLACE = 0  # of the line that is read, from 1
+PLACE = 0  # of the line that was read last, from 1; a recipe reads one output
 
 
-def lines(name):
+def lines(name: str) -> Iterator[Json]:
     """The lines of a whole output, each as an object."""
+    return lines_of(opened(name))
+
+
+def lines_of(texts: Iterable[bytes]) -> Iterator[Json]:
+    """The lines of a whole output that was opened."""
     global PLACE
-    order = Order()
-    for PLACE, text in enumerate(opened(name), 1):
+    order, place = Order(), 0
+    for place, text in enumerate(texts, 1):
+        PLACE = place
         if not text.endswith(b"\n"):
-            stop(f"line {PLACE}: the output is cut in this line")
-        line = json.loads(text)
-        kind = line["kind"]
-        if not is_shaped(kind, line):
-            raise ValueError(kind)
-        if fault := order.take(kind, line):
-            stop(f"line {PLACE}: {fault}")
-        yield line
+            stop(f"line {place}: the output is cut in this line")
+        if place == 1 and text.startswith(GZIP):
+            stop("the output is compressed; `gunzip` gives its lines")
+        yield judged(text, order, place)
     if order.part == "nothing":
         stop("nothing was read")
     if order.is_cut():
-        stop(f"line {PLACE}: the output is cut after this line: the end of its report is missing")
+        stop(f"line {place}: the output is cut after this line: the end of its report is missing")
 
 
-def run(main):
-    """Runs a recipe; a line in which it does not find what the program writes there is of another program."""
+def judged(text: bytes, order: Order, place: int) -> Json:
+    """A line as an object, which has the members of its kind and stands where it may."""
     try:
-        sys.exit(main())
-    except (ValueError, TypeError, KeyError, AttributeError, ArithmeticError, RecursionError):
-        stop(f"line {PLACE}: this is no line of stakeplay's output")
-    except BrokenPipeError:
-        os.dup2(os.open(os.devnull, os.O_WRONLY), 1)
-        sys.exit(2)
+        line = json.loads(text.decode())
+        is_line = is_shaped(line["kind"], line)
+    except (ValueError, TypeError, KeyError, AttributeError, RecursionError):
+        is_line = False
+    if not is_line:
+        stop(f"line {place}: this is no line of stakeplay's output")
+    if fault := order.take(line["kind"], line):
+        stop(f"line {place}: {fault}")
+    return line
 
 
-def bare(address):
-    """What an operator's address and that of its account have in common: all of it in hexadecimal digits; of a
-    spelling of BIP 173 what is between its prefix and the six last letters, which check the others."""
-    prefix, _, letters = address.rpartition("1")
-    return letters[:-6] if prefix.startswith("cosmos") else address
+def run(main: Callable[[], int | None]) -> NoReturn:
+    """Runs a recipe; a line in which it does not find what the program writes there is of another program."""
+    global PLACE
+    PLACE = 0
+
+    def judged_main() -> int | None:
+        try:
+            return main()
+        except (ValueError, TypeError, KeyError, AttributeError, ArithmeticError, RecursionError):
+            if not PLACE:
+                raise
+            stop(f"line {PLACE}: this is no line of stakeplay's output")
+    calling.run(judged_main)
 
 
 def whole(coins):
@@ -172,37 +174,111 @@ def shown(number):
 
 
 class Input:
-    """The input beside its output, read in step with it, one line at a time."""
+    """The input beside its output, read in step with it, one line at a time: of `replay`, or of `resume`, whose first
+    line is a block and which has no genesis."""
 
-    def __init__(self, name):
-        self.name, self.file, self.block = name, opened(name), {"height": -1}
-        self.genesis = self.next_line()
-        if self.genesis.get("kind") != "genesis":
-            stop(f"{name}: this is no input of `replay`")
+    def __init__(self, name: str):
+        self.name, self.file, self.held = name, opened(name), None
+        first = self.next_line(f"{name}: this is no input of `replay` or `resume`")
+        self.genesis = first if is_genesis(first) else None
+        self.block: Json = {"height": -1}
+        if first.get("kind") == "block" and isinstance(first.get("height"), int):
+            self.held = first
+        elif not self.genesis:
+            stop(f"{name}: this is no input of `replay` or `resume`")
+        self.first = 0 if self.genesis else first["height"]
 
-    def next_line(self):
+    def differs(self) -> NoReturn:
+        """Says that the two do not belong together."""
+        stop(f"{self.name}: this is not the input of that output")
+
+    def next_line(self, otherwise: str = "") -> Json:
+        """The next line, which has to be there."""
         try:
-            return json.loads(self.file.readline())
-        except ValueError:
-            stop(f"{self.name}: this is not the input of that output")
+            if self.held:
+                line, self.held = self.held, None
+            else:
+                line = json.loads(self.file.readline().decode())
+            if isinstance(line, dict):
+                return line
+        except (ValueError, RecursionError):
+            pass
+        stop(otherwise) if otherwise else self.differs()
 
-    def at(self, height):
+    def has(self, height: int) -> bool:
+        """Whether the input may have a block: one of `resume` has none of the heights before its first line."""
+        return height >= self.first
+
+    def transaction(self, line: Json) -> Json:
+        """The transaction of an outcome."""
+        return self.at(line["height"])["txs"][line["tx"]]
+
+    def at(self, height: int) -> Json:
         """The block of a height; heights are asked for in ascending order."""
         while self.block["height"] < height:
             self.block = self.next_line()
+            if not isinstance(self.block.get("height"), int) or not isinstance(self.block.get("txs"), list):
+                self.differs()
         if self.block["height"] != height:
-            stop(f"{self.name}: this is not the input of that output")
+            self.differs()
         return self.block
+
+    def take(self, kind: str, line: Json) -> None:
+        """Goes on to a line of the output, and holds its block against that of the input."""
+        try:
+            if kind == "genesis":
+                is_other = self.genesis is not None and supply_of(self.genesis) != whole(line["supply"])
+            elif kind == "block" and self.has(line["height"]):
+                is_other = plain_time(self.at(line["height"])["time"]) != line["time"]
+            elif kind in OUTCOMES and self.has(line["height"]):
+                is_other = line.get("msg", -1) >= len(self.transaction(line)["msgs"])
+            else:
+                is_other = False
+            if is_other:
+                self.differs()
+        except (KeyError, TypeError, ValueError, IndexError, AttributeError):
+            self.differs()
+
+
+def is_genesis(line: Json) -> bool:
+    """Whether a line has what is read of a genesis."""
+    try:
+        supply_of(line)
+        for validator in line["validators"]:
+            float(validator["rate"]), validator["operator"], validator["cons"]
+        for delegation in line["delegations"]:
+            delegation["delegator"], delegation["validator"]
+        params = line["params"]
+        return line["kind"] == "genesis" and params["power_reduction"] > 0 and params["max_validators"] > 0
+    except (KeyError, TypeError, ValueError, AttributeError):
+        return False
+
+
+def supply_of(genesis: Json) -> dict[str, int]:
+    """The coins that a genesis has of each denomination."""
+    found = {genesis["params"]["bond_denom"]: sum(int(line["amount"]) for line in genesis["delegations"])}
+    for account in genesis["accounts"]:
+        for coin in account["coins"]:
+            found[coin["denom"]] = found.get(coin["denom"], 0) + int(coin["amount"])
+    return {denom: amount for denom, amount in found.items() if amount}
+
+
+def plain_time(text: str) -> str:
+    """A moment as it is written: without zeros at the end of its fraction."""
+    before, point, part = text.removesuffix("Z").partition(".")
+    return f"{before}{point}{part}".rstrip("0").rstrip(".") + "Z" if point else text
 
 
 class Stakes:
     """The stakes of those delegations that are wanted, as their lines tell them, and what slashes take of them.
 
-    A stake of the genesis has no line: it is known from the input, or from its next start on."""
+    A stake of the genesis has no line: it is known from the input, from its next start on, or from a report on, where it
+    is the value of the delegation's shares."""
 
     def __init__(self, wants, given=None):
         self.wants, self.at, self.slashes, self.touched = wants, {}, [], None
-        for line in given.genesis["delegations"] if given else ():
+        self.worth = {}     # by validator: the tokens and the shares that a report tells
+        for line in given.genesis["delegations"] if given and given.genesis else ():
             if wants(line["delegator"], line["validator"]):
                 self.at.setdefault(line["validator"], {})[line["delegator"]] = int(line["amount"]) * ONE
 
@@ -229,6 +305,12 @@ class Stakes:
             return [(*part, line["denom"]) for part in told]
         elif kind == "removed":
             self.at.pop(line["validator"], None)
+        elif kind == "validator":
+            self.worth[line["operator"]] = int(line["tokens"]), raw(line["shares"])
+        elif kind == "delegation" and line["validator"] in self.worth and self.wants(line["delegator"], line["validator"]):
+            tokens, shares = self.worth[line["validator"]]
+            value = raw(line["shares"]) * tokens * ONE // shares
+            self.at.setdefault(line["validator"], {}).setdefault(line["delegator"], value)
         elif kind in OUTCOMES or kind == "block":
             self.slashes, self.touched = [], None
         return []

@@ -2,16 +2,16 @@
 
 What is written has what a store has: a validator has `consensus_address` in place of its key, and no member stands
 there that means nothing to this machine (descriptions, the previous proposer, headers that are kept). What is read may
-have both spellings. Nothing is judged here but the form of each member; `node_sound.py` judges the whole.
+have both spellings. Nothing is judged here but the form of each member; `sound.py` judges the whole.
 """
 from __future__ import annotations
 
 from dataclasses import dataclass, field
 from typing import Any, Callable, Iterable, TypeVar
 
-from node_data import (AUTHORITY, CHAIN_OF_HERE, COLLECTOR, RESERVE, SECOND, Coins, Prefix, Value, coins_json,
+from stakeplay.node.data import (AUTHORITY, CHAIN_OF_HERE, COLLECTOR, RESERVE, SECOND, Coins, Prefix, Value, coins_json,
                        decimal_text, moment_text_of_state, stop)
-from node_state import BONDED_STATUS, STATUSES, Entry, Historical, Params, Purse, Signing, Start, State, Validator
+from stakeplay.node.state import BONDED_STATUS, STATUSES, Entry, Historical, Params, Purse, Signing, Start, State, Validator
 
 MOST_PLACES = 100_000     # the widest window of votes
 Record = TypeVar("Record")
