@@ -8,6 +8,7 @@ set -u
 cd "$(dirname "$0")/.."
 export PYTHONDONTWRITEBYTECODE=1
 . checks/program.bash
+need_program recipes
 bad=0
 python3 - "$built" <<'PYTHON' || bad=1
 import base64, collections, contextlib, csv, functools, hashlib, io, json, pathlib, re, subprocess, sys, tempfile

@@ -15,7 +15,7 @@ import zipfile
 
 HERE = pathlib.Path(__file__).resolve().parent
 SOURCES = HERE / "src"
-KINDS = {".py", ".typed", ".json", ".csv"}
+KINDS = {".py", ".typed", ".json", ".csv", ".html", ".css", ".js"}
 WHEEL = "Wheel-Version: 1.0\nGenerator: wheel_of_sources\nRoot-Is-Purelib: true\nTag: py3-none-any\n"
 
 

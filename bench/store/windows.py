@@ -6,7 +6,7 @@ A chain of 100 validators whose votes are kept for a window of 10,000 blocks, of
 
   rows     the bytes of the rows that it changed, names and bodies, in the second format and, of the same rows, in the first.
            Aim: at most a tenth
-  store    the bytes that the program handed to the system for its two files, and the number of its syncs, one a commit;
+  store    the bytes that the program handed to the system for its two files, and the number of its syncs, one or two a commit;
            beside those of a program that writes the first format, where `--first` names one (a release before that change)
 
 `/proc/PID/io` has the bytes, what was printed taken off, and `strace` counts the syncs, where there is one. Linux alone.

@@ -11,6 +11,8 @@ import sys
 RECIPES = {     # by the name of a recipe: the folder of its module, and what it is for
     "tax-sheet": ("sheets", "what an address was paid, paid and lost"),
     "validator-sheet": ("sheets", "what a validator has, earns and loses, block by block"),
+    "page": ("pages", "a page of a run, which a browser opens"),
+    "operator-day": ("sheets", "what a validator's operator looks at each day"),
     "refusals": ("sheets", "why messages were refused"),
     "reconcile": ("sheets", "whether accounts agree with what moved between two blocks"),
     "audit": ("sheets", "whether an output adds up"),

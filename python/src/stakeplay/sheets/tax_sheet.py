@@ -4,6 +4,7 @@ Who wants it: whoever declares what an address earned, and a program for taxes t
 One command:  python3 tax_sheet.py ADDRESS run.out            (`-` for standard input)
               python3 tax_sheet.py ADDRESS run.out run.jsonl  (with the input beside it; see below)
               python3 tax_sheet.py ADDRESS run.out --statements FILE  (with reward statements; `statements=FILE` too)
+              python3 tax_sheet.py ADDRESS run.out run.jsonl --year 2024 --exponent uatom=6:ATOM  (a tax year; see below)
 What comes out, for the third user of the example `life.out`:
     time,height,what,in,out,aside,denom,other
     2024-01-01T00:00:05Z,1,fee,,300,,uatom,
@@ -19,6 +20,9 @@ A refusal names nobody: it is told of the payer of its fee, so one without a fee
 the output, as is what a slash takes of a delegation of the genesis. Burns of unbonding entries name no delegator and
 are in no sheet; what is left of an entry is the row `unbonded`. A row of a refusal ends by the place of its message,
 its kind (with the input), and the refusal's name and condition; `refusals.py` has more.
+With --year the sheet is that of a tax year, in whole coins, with values of --prices, hashes of --blocks, a sum of each
+kind, and balances that add up; with --format in the columns of Koinly or CoinTracking (written from memory of them).
+Delegating, redelegating and unbonding move nothing out there: what is staked stays the address's own.
 Status: 0, or 2 where the output is cut or of another program, or where no line of it names the address.
 """
 from __future__ import annotations
@@ -29,6 +33,7 @@ import json
 import sys
 
 from stakeplay.calling import Asked, Parser, an_address
+from stakeplay.sheets import tax_year
 from stakeplay.lines.reading import COLLECTOR, DISTRIBUTION, MODULES, NOT_BONDED, ONE, Input, Stakes
 from stakeplay.lines.reading import bare, lines, opened, run, stop, units, shown, whole
 from stakeplay.tables import refusal_named
@@ -172,6 +177,7 @@ def arguments() -> argparse.Namespace:
     parser.input_beside()
     parser.add_argument("--statements", metavar="FILE", help="reward statements, as the command `statement` makes them")
     parser.unknown()
+    tax_year.add_words(parser)
     given = sys.argv[1:]
     sys.argv[1:] = [part for word in given for part in (
         ["--statements", word[11:]] if word.startswith("statements=") else [word])]
@@ -181,6 +187,9 @@ def arguments() -> argparse.Namespace:
 def main() -> None:
     """Writes the sheet."""
     words = arguments()
+    if words.year is not None:
+        tax_year.write(words)
+        return
     asked = Asked([words.address], allow_unknown=words.allow_unknown)
     statements = statements_of(words.statements) if words.statements is not None else {}
     sheet = Sheet(words.address, Input(words.input) if words.input is not None else None, statements, asked)
