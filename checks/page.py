@@ -308,10 +308,11 @@ class Curves:
                 elif name == "withdrawn":
                     self.exactly(f"{path}.withdrawn", told.added("commission", denom, lambda line: line["validator"] == operator), width)
                 elif name == "missed" and told.genesis:
-                    after = told.missed(row["cons"], operator)
+                    cons = row.get("cons") or next(line["cons"] for line in told.genesis["validators"] if line["operator"] == operator)
+                    after = told.missed(cons, operator)
                     self.after(f"{path}.missed", after, width)
-                    signing = [line for _, line in told.reported("signing") if line["cons"] == row["cons"]]
-                    ask(after[told.heights[-1]] == signing[0]["missed"], f"this check reckons other misses of {operator} than the report has")
+                    signing = [line for _, line in told.reported("signing") if line["cons"] == cons]
+                    ask(not signing or after[told.heights[-1]] == signing[0]["missed"], f"this check reckons other misses of {operator} than the report has")
 
     def of_addresses(self) -> None:
         told, (_, _, width) = self.told, self.data["run"]["widths"]
