@@ -331,7 +331,7 @@ class Curves:
                 elif name == "missed" and told.genesis:
                     cons = row.get("cons") or next(line["cons"] for line in told.genesis["validators"] if line["operator"] == operator)
                     after = told.missed(cons, operator)
-                    self.after(f"{path}.missed", after, width)
+                    self.after(f"{path}.missed", after, width, last=0)
                     signing = [line for _, line in told.reported("signing") if line["cons"] == cons]
                     ask(not signing or after[told.heights[-1]] == signing[0]["missed"], f"this check reckons other misses of {operator} than the report has")
 
