@@ -85,7 +85,7 @@ left="$(find "$room/env" -iname '*stakeplay*')"
 install --editable ./python 2>"$room/err" || say "pip does not install it as a place of work: $(tail -n 3 "$room/err")"
 place="$(cd "$room" && "$room/env/bin/python" -I -c 'import stakeplay; print(stakeplay.__file__)')"
 [ "$place" = "$top/python/src/stakeplay/__init__.py" ] || say "a place of work leads to $place"
-git status --porcelain --untracked-files=all python | grep -v '^[AMRD]' | sed 's/^/package: /' | grep '??' && say "files were left in python/"
+git status --porcelain --untracked-files=all python | grep '^??' && say "these files were left there"
 
 python3 checks/wrong_calls.py || bad=1
 if [ -n "$built" ]; then

@@ -10,7 +10,7 @@ export PYTHONDONTWRITEBYTECODE=1
 . checks/program.bash
 bad=0
 python3 - "$built" <<'PYTHON' || bad=1
-import collections, contextlib, functools, io, json, pathlib, re, subprocess, sys, tempfile
+import base64, collections, contextlib, csv, functools, hashlib, io, json, pathlib, re, subprocess, sys, tempfile
 
 ONE = 10 ** 18
 FACTS = ("transfer burn allocated pooled period started slashed paid commission "
@@ -213,6 +213,41 @@ answer = b"".join(text for text in texts if b'"kind":"account"' in text)
 following = whole_reports["an output and its continuation"][len(life):]
 status, out, err = tried_here(["reconcile.py", "5", "6", "-", *addresses], answer + following)
 ask(status == 0 and b"report report" in out, f"reconcile.py ended with {status} on answers and what follows: {err}")
+
+status, out, err = tried_here(["reconcile.py", "1", "5", str(examples / "life.out"), addresses[2], "7" * 40, "--allow-unknown"])
+ask(status == 0 and f"{'7' * 40},,0,0,0,0,0,0,0,0,0,0," in out.decode(), f"reconcile.py has no row of zeros: {status} {err}")
+
+# ---- each refusal of each run, with its condition and its message
+
+refused = 0
+for end in sorted([*examples.glob("*.end"), *pathlib.Path("cases").glob("*.end"), *spelled.glob("*.end")]):
+    if end.read_text().split()[0] == "0":
+        out, given = end.with_suffix(".out"), end.with_suffix(".jsonl")
+        told = [line for line in map(json.loads, out.read_text().splitlines()) if line["kind"] == "refused"]
+        status, sheet, err = tried_here(["refusals.py", str(out), str(given)])
+        rows = list(csv.DictReader(io.StringIO(sheet.decode())))
+        refused += len(rows)
+        blocks = {line["height"]: line for line in map(json.loads, given.read_text().splitlines()[1:])}
+        for row, line in zip(rows, told):
+            sent = blocks[line["height"]]["txs"][line["tx"]]
+            kind = sent["msgs"][line["msg"]]["kind"] if "msg" in line else ""
+            wanted = (str(line["height"]), str(line["number"]), kind, sent["payer"])
+            ask((row["height"], row["number"], row["message"], row["payer"]) == wanted and row["name"] and row["condition"],
+                f"refusals.py on {out} has the row {row}")
+        ask(status == 0 and len(rows) == len(told), f"refusals.py on {out} ended with {status} and has {len(rows)} rows: {err}")
+ask(refused > 100, f"only {refused} refusals were tried")
+
+# ---- the hashes of a node's transactions, by the places of their lines
+
+with tempfile.TemporaryDirectory() as room:
+    path, data = pathlib.Path(room) / "hashes.csv", recipes / "data/blocks"
+    status, told, err = tried_here(["from_blocks.py", str(data), "--hashes", str(path)])
+    rows = list(csv.DictReader(io.StringIO(path.read_text())))
+    made = {line["height"]: line["txs"] for line in map(json.loads, told.decode().splitlines())}
+    sent = [(str(height), hashlib.sha256(base64.b64decode(text)).hexdigest().upper()) for height in made
+            for text in json.loads((data / f"block_{height}.json").read_text())["result"]["block"]["data"]["txs"]]
+    ask(sent and [(row["height"], row["hash"]) for row in rows] == sent, f"from_blocks.py has other hashes: {status} {err}")
+    ask(all(made[int(row["height"])][int(row["tx"])]["payer"] for row in rows), "a hash is of no transaction of its line")
 
 # ---- statements beside an output
 

@@ -31,7 +31,8 @@ Schema = Any
 FOLDER = ROOT / "docs" / "schemas"
 MOST = 2 ** 63 - 1
 MOST_BRACKETS = 127
-DAY = r"(?:19[7-9]\d|[2-9]\d{3})-(?:0[1-9]|1[0-2])-(?:0[1-9]|[12]\d|3[01])T(?:[01]\d|2[0-3]):[0-5]\d:[0-5]\d".replace(r"\d", "[0-9]")
+DAY = (r"(?:19[7-9]\d|[2-9]\d{3})-(?:0[1-9]|1[0-2])-(?:0[1-9]|[12]\d|3[01])"
+       r"T(?:[01]\d|2[0-3]):[0-5]\d:[0-5]\d").replace(r"\d", "[0-9]")
 
 
 # ---- the forms of members, by their names on the page
@@ -46,7 +47,8 @@ FORMS: dict[str, tuple[str, Schema]] = {    # what the page says of each, and it
                {"type": "integer", "minimum": 0, "maximum": MOST}),
     "amount": ("a string of 1 to 38 digits", text("[0-9]{1,38}")),
     "decimal": ("a string of 1 to 20 digits, optionally a point and 1 to 18 digits", text(r"[0-9]{1,20}(?:\.[0-9]{1,18})?")),
-    "moment": ("a string YYYY-MM-DDTHH:MM:SS, optionally a point and 1 to 9 digits, then Z; the years 1970 to 9999, a date that exists",
+    "moment": ("a string YYYY-MM-DDTHH:MM:SS, optionally a point and 1 to 9 digits, then Z; "
+               "the years 1970 to 9999, a date that exists",
                text(DAY + r"(?:\.[0-9]{1,9})?Z", format="date-time")),
     "denomination": ("a string: a letter, then 2 to 127 of a-z A-Z 0-9 / : . _ -", text("[a-zA-Z][a-zA-Z0-9/:._-]{2,127}")),
     "truth value": ("true or false", {"type": "boolean"}),
@@ -207,7 +209,8 @@ def refused() -> Iterator[Schema]:
     told = rows["a message was refused"]
     more = [(r"for 30 also until", [30], ["until"]), (r"for 35 also a, b, c \(strings\) and over", [35], ["a", "b", "c", "over"]),
             (r"for 38 and 39 also member", [38, 39], ["member"])]
-    if rows["the fee was not paid"] != "height, kind (refused), number (40), tx" or not all(re.search(words, told) for words, _, _ in more):
+    is_known = all(re.search(words, told) for words, _, _ in more)
+    if not is_known or rows["the fee was not paid"] != "height, kind (refused), number (40), tx":
         sys.exit("schemas: docs/FORMATS.md has other members of refusals than are known here")
     numbers = [int(row[0]) for row in tables.rows_below("Refusals", ["number", "name", "the condition", "the SDK's error"])]
     special = [number for _, own, _ in more for number in own]
@@ -274,8 +277,8 @@ def files() -> dict[pathlib.Path, str]:
 # ---- whether a value meets a schema
 
 TYPES = {"object": dict, "array": list, "string": str, "boolean": bool}
-KNOWN = {"$schema", "$id", "$defs", "title", "$ref", "type", "const", "enum", "pattern", "format", "minimum", "maximum", "properties",
-         "required", "additionalProperties", "items", "oneOf", "anyOf", "not", "x-unique", "x-span"}
+KNOWN = {"$schema", "$id", "$defs", "title", "$ref", "type", "const", "enum", "pattern", "format", "minimum", "maximum",
+         "properties", "required", "additionalProperties", "items", "oneOf", "anyOf", "not", "x-unique", "x-span"}
 
 
 def meets(value: Any, one: Schema, defs: Schema) -> bool:
@@ -292,8 +295,10 @@ def faults(value: Any, one: Schema, defs: Schema, where: str) -> Iterator[str]:
     if "type" in one and not (type(value) is int if one["type"] == "integer" else type(value) is TYPES[one["type"]]):
         yield f"{where}: is no {one['type']}"
         return
-    if "const" in one and (value != one["const"] or type(value) is not type(one["const"])) or "enum" in one and value not in one["enum"]:
+    if "const" in one and (value != one["const"] or type(value) is not type(one["const"])):
         yield f"{where}: is another value"
+    if "enum" in one and value not in one["enum"]:
+        yield f"{where}: is none of the values"
     if "pattern" in one and not re.search(one["pattern"].replace("$", r"\Z"), value):
         yield f"{where}: is not of the pattern"
     elif "format" in one and not is_of_format(value, one["format"]):
@@ -387,7 +392,8 @@ def hold_case(path: pathlib.Path, is_bech32: bool) -> Iterator[str]:
             fault = "not JSON"
         is_due = number_of == place and why.startswith(("bad shape", "not JSON"))
         if bool(fault) != is_due or (fault == "not JSON") != (is_due and why == "not JSON"):
-            yield f"{path}: line {number_of} {f'fails: {fault}' if fault else 'meets its schema'}, and the program says {why or 'nothing'}"
+            found = f"fails: {fault}" if fault else "meets its schema"
+            yield f"{path}: line {number_of} {found}, and the program says {why or 'nothing'}"
         if number_of == place:
             break
     for number_of, line in enumerate(path.with_suffix(".out").read_bytes().splitlines(), 1):
@@ -426,7 +432,8 @@ def main(words: list[str]) -> int:
         count, bad = hold_cases()
         for fault in bad:
             print(f"schemas: {fault}")
-        print(f"schemas: {len(files())} as docs/FORMATS.md says, {count} lines held against them, {len(bad)} not as they should be")
+        print(f"schemas: {len(files())} made of docs/FORMATS.md, {count} lines held against them, "
+              f"{len(bad)} not as they should be")
         status = 1 if bad else status
     return status
 

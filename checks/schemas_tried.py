@@ -20,8 +20,8 @@ sys.path.insert(0, str(ROOT / "checks"))
 import schemas  # noqa: E402
 
 GONE, TWICE, MORE = object(), object(), object()
-VALUES: list[Any] = [GONE, TWICE, MORE, None, True, 0, -1, 1.5, 2 ** 63, "", "0", "x", "1.5", "1." + "0" * 19, "1" * 39, "1" * 21,
-                     [], [7], {}, "2024-02-30T00:00:00Z", "2024-01-01T00:00:05.1234567891Z", "1969-12-31T23:59:59Z", "a" * 40,
+VALUES: list[Any] = [GONE, TWICE, MORE, None, True, 0, -1, 1.5, 2 ** 63, "", "0", "x", "1.5", "1." + "0" * 19, "1" * 39,
+                     "1" * 21, [], [7], {}, "2024-02-30T00:00:00Z", "2024-01-01T00:00:05.1234567891Z", "1969-12-31T23:59:59Z", "a" * 40,
                      "A" * 40, "0" * 39 + "1", "a" * 41, "ua", "uatom", "u atom", "bonded", "send", "yes",
                      [{"denom": "uatom", "amount": "1"}], [{"denom": "uatom", "amount": "1"}] * 2, [{"denom": "u", "amount": "1"}],
                      [{"denom": "uatom", "amount": "1.5"}], [{"denom": "uatom"}], "cosmos1gqqqqqqqqqqqqqqqqqqqqqqqqqqqqqqtdvv75w",
@@ -60,12 +60,13 @@ def changed(value: Any, path: tuple[Any, ...], other: Any) -> Any:
 def one_block() -> Any:
     """A block of the example with a transaction of each kind of message, and evidence."""
     blocks = [json.loads(line) for line in (ROOT / "examples/history.jsonl").read_text().splitlines()[1:]]
-    blocks += [json.loads(line) for path in sorted((ROOT / "cases").glob("*.jsonl")) if path.with_suffix(".end").read_text().startswith("0")
-               for line in path.read_text(errors="replace").splitlines()[1:]]
+    good = [end.with_suffix(".jsonl") for end in sorted((ROOT / "cases").glob("*.end")) if end.read_text().startswith("0")]
+    blocks += [json.loads(line) for path in good for line in path.read_text().splitlines()[1:]]
     kinds = {message["kind"]: message for block in blocks for tx in block["txs"] for message in tx["msgs"]}
     evidence = next(block["evidence"] for block in blocks if block["evidence"])
     made = dict(blocks[0], height=1, evidence=evidence)
-    made["txs"] = [{"payer": "3" * 40, "fee": [{"denom": "uatom", "amount": "1"}], "msgs": [message]} for message in kinds.values()]
+    fee = [{"denom": "uatom", "amount": "1"}]
+    made["txs"] = [{"payer": "3" * 40, "fee": fee, "msgs": [message]} for message in kinds.values()]
     return made
 
 
@@ -118,9 +119,11 @@ def main(program: str) -> int:
         if bool(fault) != is_fault:
             bad += 1
             if bad < 20:
-                print(f"schemas_tried: the program {'refuses' if is_fault else 'takes'} the form of a {name}, and the schema says "
-                      f"{fault or 'nothing'}: {line[:1500]}")
-    print(f"schemas_tried: {len(rows)} changed lines, {failing} not of their form; the schemas differ from the program in {bad}")
+                does = "refuses" if is_fault else "takes"
+                print(f"schemas_tried: the program {does} the form of a {name}, and the schema says {fault or 'nothing'}: "
+                      f"{line[:1500]}")
+    print(f"schemas_tried: {len(rows)} changed lines, {failing} not of their form; "
+          f"the schemas differ from the program in {bad}")
     return 1 if bad else 0
 
 

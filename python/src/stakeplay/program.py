@@ -17,6 +17,7 @@ from stakeplay.calling import Fault, stop
 from stakeplay.lines.facts import Fact, read
 
 Line = Union[str, bytes, "dict[str, Any]"]
+Path = Union[str, "os.PathLike[str]"]
 
 
 class Ended(Fault):
@@ -31,8 +32,8 @@ def program() -> str:
     """The path of the program."""
     script = pathlib.Path(__file__).resolve().parents[3] / "stakeplay.sh"
     named = os.environ.get("STAKEPLAY")
-    found = named or shutil.which("stakeplay") or shutil.which("stakeplay.sh") or (str(script) if script.exists() else None)
-    return found or stop("there is no program: put `stakeplay` on the path, or its path into the variable STAKEPLAY")
+    found = named or shutil.which("stakeplay") or shutil.which("stakeplay.sh")
+    return found or (str(script) if script.exists() else "") or stop("there is no program: put `stakeplay` on the path, or its path into the variable STAKEPLAY")
 
 
 def _bytes_of(line: Line) -> bytes:
@@ -83,17 +84,17 @@ def _facts(words: list[str], lines: Iterable[Line], bech32: bool) -> Iterator[Fa
     return read(output([store, *(["bech32"] if bech32 else []), *others], lines))
 
 
-def replay(lines: Iterable[Line], *, store: str | os.PathLike[str] = "-", keep: bool = False, bech32: bool = False) -> Iterator[Fact]:
-    """The facts of a replay of a genesis and blocks: texts or objects, one a line. With `store` its state is kept there."""
+def replay(lines: Iterable[Line], *, store: Path = "-", keep: bool = False, bech32: bool = False) -> Iterator[Fact]:
+    """The facts of a replay of a genesis and blocks: texts or objects, one a line. With `store` the state is kept."""
     return _facts([os.fspath(store), *(["keep"] if keep else []), "replay"], lines, bech32)
 
 
-def resume(store: str | os.PathLike[str], lines: Iterable[Line], *, keep: bool = False, bech32: bool = False) -> Iterator[Fact]:
+def resume(store: Path, lines: Iterable[Line], *, keep: bool = False, bech32: bool = False) -> Iterator[Fact]:
     """The facts of blocks that go on from a store."""
     return _facts([os.fspath(store), *(["keep"] if keep else []), "resume"], lines, bech32)
 
 
-def query(store: str | os.PathLike[str], *words: str, height: int | None = None, bech32: bool = False) -> list[Fact]:
+def query(store: Path, *words: str, height: int | None = None, bech32: bool = False) -> list[Fact]:
     """The answer to a question of a store: `query(store, "account", address)`; with `height` as it was then."""
     past = [] if height is None else ["past", str(height)]
     return list(_facts([os.fspath(store), *past, "query", *words], (), bech32))

@@ -65,7 +65,8 @@ def arguments() -> argparse.Namespace:
     """What the recipe was called with."""
     parser = Parser(__doc__)
     parser.add_argument("file", metavar="FILE", help="the line of a tally; - for standard input")
-    parser.add_argument("parameters", metavar="QUORUM THRESHOLD VETO", nargs="*", type=parameter, help="of the chain, as decimals")
+    parser.add_argument("parameters", metavar="QUORUM THRESHOLD VETO", nargs="*", type=parameter,
+                        help="of the chain, as decimals")
     words = parser.words()
     if len(words.parameters) not in (0, 3):
         parser.error("wants QUORUM THRESHOLD VETO, or none of them")

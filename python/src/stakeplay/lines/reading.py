@@ -248,7 +248,8 @@ def is_genesis(line: Json) -> bool:
             float(validator["rate"]), validator["operator"], validator["cons"]
         for delegation in line["delegations"]:
             delegation["delegator"], delegation["validator"]
-        return line["kind"] == "genesis" and int(line["params"]["power_reduction"]) + int(line["params"]["max_validators"]) > 0
+        params = line["params"]
+        return line["kind"] == "genesis" and params["power_reduction"] > 0 and params["max_validators"] > 0
     except (KeyError, TypeError, ValueError, AttributeError):
         return False
 
@@ -306,7 +307,7 @@ class Stakes:
             self.at.pop(line["validator"], None)
         elif kind == "validator":
             self.worth[line["operator"]] = int(line["tokens"]), raw(line["shares"])
-        elif kind == "delegation" and self.wants(line["delegator"], line["validator"]) and line["validator"] in self.worth:
+        elif kind == "delegation" and line["validator"] in self.worth and self.wants(line["delegator"], line["validator"]):
             tokens, shares = self.worth[line["validator"]]
             value = raw(line["shares"]) * tokens * ONE // shares
             self.at.setdefault(line["validator"], {}).setdefault(line["delegator"], value)
