@@ -20,7 +20,7 @@ A refusal names nobody: it is told of the payer of its fee, so one without a fee
 the output, as is what a slash takes of a delegation of the genesis. Burns of unbonding entries name no delegator and
 are in no sheet; what is left of an entry is the row `unbonded`. A row of a refusal ends by the place of its message,
 its kind (with the input), and the refusal's name and condition; `refusals.py` has more.
-With --year the sheet is that of a tax year, in whole coins, with values of --prices, hashes of --blocks, a sum of each
+With --year the sheet is that of a tax year, in whole coins, with values of --prices, hashes of --hashes, a sum of each
 kind, and balances that add up; with --format in the columns of Koinly or CoinTracking (written from memory of them).
 Delegating, redelegating and unbonding move nothing out there: what is staked stays the address's own.
 Status: 0, or 2 where the output is cut or of another program, or where no line of it names the address.
