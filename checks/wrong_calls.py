@@ -51,6 +51,8 @@ WRONG_OPERATORS = WRONG_EVERYWHERE + [
     OPERATOR[:-1] + "8", NOBODY.hex(), bech32("cosmosvaloper", bytes.fromhex(OPERATOR)), bech32("cosmos", NOBODY),
     "fee_collector", USER]
 WRONG_HEIGHTS = ["", "-1", "1.5", "x", "1e1", "9" * 30, "+1", " 1", "٣"]
+WRONG_EXPONENTS = ["", "uatom", "uatom=", "uatom=x:ATOM", "uatom=-1:ATOM", "uatom=6", "=6:ATOM", "uatom=6:"]
+WRONG_PARTS = ["", "x", "-0.1", "1.5", "nan", "5%"]
 WRONG_COUNTS = ["", "0", "-5", "1.5", "x", "9" * 30]
 
 
@@ -146,7 +148,7 @@ class Calls:
         """Every call, those that are right among them."""
         for part in (self.tax_sheet, self.reconcile, self.validator_sheet, self.audit, self.refusals, self.statements,
                      self.proposal, self.stores, self.exports, self.blocks, self.fetching, self.long_run, self.watching,
-                     self.package):
+                     self.package, self.page, self.operator_day, self.tax_year):
             yield from part()
 
     def tax_sheet(self) -> Iterator[Call]:
@@ -331,6 +333,43 @@ class Calls:
     def package(self) -> Iterator[Call]:
         wrong = [], ["no-such-recipe"], ["--no-such-flag"], [""], ["tax-sheet"], ["tax-sheet", USER, str(self.room)]
         yield from (Call(["stakeplay", *words]) for words in wrong)
+
+
+    def page(self) -> Iterator[Call]:
+        words = ["page.py", str(self.out), str(self.inp)]
+        yield Call(words, is_right=True)
+        yield from wrong_words(words, 1, None)
+        yield from in_place(words[:2], 1, self.bad_outputs())
+        yield from in_place(words, 2, self.bad_inputs())
+        yield from in_place([*words, "--only", ""], 4, WRONG_ACCOUNTS)
+        yield from in_place([*words, "--exponent", ""], 4, WRONG_EXPONENTS)
+        yield from in_place([*words, "--denom", ""], 4, ["", "u", "no denom", "uosmo"])
+        for flag, texts in (("--window", WRONG_COUNTS), ("--min-signed", WRONG_PARTS), ("--most-bytes", WRONG_COUNTS)):
+            yield from in_place([*words, flag, ""], 4, texts)
+
+    def operator_day(self) -> Iterator[Call]:
+        words = ["operator_day.py", OPERATOR, str(self.out), str(self.inp)]
+        yield from wrong_words(words, 2, None)
+        yield from in_place(words[:3], 1, WRONG_OPERATORS)
+        yield from in_place(words[:3], 2, self.bad_outputs())
+        yield from in_place(words, 3, self.bad_inputs())
+        yield from in_place([*words, "--exponent", ""], 5, WRONG_EXPONENTS)
+        yield from in_place([*words, "--window", ""], 5, WRONG_COUNTS)
+        for flag in ("--min-signed", "--missed", "--left"):
+            yield from in_place([*words, flag, ""], 5, WRONG_PARTS)
+
+    def tax_year(self) -> Iterator[Call]:
+        words = ["tax_sheet.py", USER, str(self.out), str(self.inp), "--year", "2024", "--format", "plain"]
+        yield Call(words, is_right=True)
+        yield from in_place(words, 1, [NOBODY.hex(), USER[:-1] + "8"])
+        yield from in_place(words, 2, self.bad_outputs())
+        yield from in_place(words, 3, self.bad_inputs())
+        yield from in_place(words, 5, ["", "-1", "x", "24", "20240", "2024.5"])
+        yield from in_place(words, 7, ["", "x", "koinlyy"])
+        yield from in_place([*words, "--exponent", ""], 9, WRONG_EXPONENTS)
+        prices = self.room / "prices.csv"
+        prices.write_text("date,denom,price\n2024-01-01,uatom,0.00001\n")
+        yield from in_place([*words, "--prices", ""], 9, list(bad_files(self.room, prices, [self.out])))
 
 
 # ---- running them
