@@ -6,7 +6,9 @@ What comes out, where a validator's tokens are not the same; nothing where all i
     app_state.staking.validators[cosmosvaloper1..].tokens: chain 1318828, store 1318827
 An element of a list has its key in brackets. One that stands on one side alone is told, and then each of its members.
 What no store has (other modules, descriptions, ..) is not compared, nor is the reserve. With --next, the results of the
-block after the store's, what was paid ahead to the fee collector is left out.
+block after the store's, what was paid ahead to the fee collector is left out. With --only the denominations that are
+named and the one that is staked are compared; without it the export's of a supply above 10^18, which no store has, are
+left out. What is left out is told by `note left-out`, with its supply.
 Status: 0 nothing differs, 1 something does, 2 the store or the export is none.
 """
 from __future__ import annotations
@@ -14,8 +16,10 @@ from __future__ import annotations
 from typing import Any, Iterator
 
 from stakeplay.calling import Parser
-from stakeplay.node.data import Prefix, read_document, run
+from stakeplay.node.data import Prefix, note, read_document, run
 from stakeplay.node.export import Json, Writer, read_export
+from stakeplay.node.left_out import add_only, leave_out_of, tell_left_out
+from stakeplay.node.state import read_store
 from stakeplay.node.to_export import export_of
 
 DENOM, ADDRESS, OPERATOR, VALIDATOR = ("denom",), ("address",), ("operator_address",), ("validator_address",)
@@ -79,11 +83,13 @@ def main() -> int:
     reader.add_argument("store", metavar="STORE", help="the file of a store")
     reader.add_argument("export", metavar="EXPORT", help="what `simd export` wrote of the store's height")
     reader.add_argument("--next", metavar="RESULTS", help="the node's /block_results of the block after the store's")
+    add_only(reader)
     words = reader.words()
-    prefix = Prefix(tells_long=False)
-    of_store = export_of(words.store, words.next)
-    params = of_store.state.params
-    of_chain = read_export(read_document(words.export, prefix), params.power_reduction, of_store.state.time)
+    prefix, state = Prefix(tells_long=False), read_store(words.store)
+    document = read_document(words.export, prefix)
+    tell_left_out(note, document.place, leave_out_of(document, words.only))
+    of_chain = read_export(document, state.params.power_reduction, state.time)
+    of_store = export_of(state, words.next)
     writer, is_same = Writer(prefix), True
     for line in differences("", "", writer.document(of_chain), writer.document(of_store)):
         print(line)

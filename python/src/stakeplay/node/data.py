@@ -23,6 +23,7 @@ from typing import Any, Callable, NoReturn
 
 from stakeplay.addresses import MODULES, bech32, from_bech32
 from stakeplay.calling import Fault, ended
+from stakeplay.node.denominations import TAKEN
 
 ONE = 10 ** 18            # the units of a decimal in one whole
 SECOND = 10 ** 9          # the nanoseconds of a second
@@ -70,6 +71,7 @@ def run(main: Callable[[], int | None]) -> NoReturn:
     """Runs a recipe, and ends with its status; with at least 1 after a `look`, with 2 after a `stop`."""
     told.clear()
     _looked.clear()
+    TAKEN.begin()
     try:
         status = main() or 0
         sys.stdout.flush()
@@ -294,19 +296,29 @@ class Value:
             self.fail("is no string of a whole number from 0 on, below 2^63")
         return int(self.raw)
 
-    def amount(self) -> int:
-        """An amount, a string of digits."""
+    def any_amount(self) -> int:
+        """An amount, a string of digits, also one above the limit."""
         if not isinstance(self.raw, str) or not _AMOUNT.fullmatch(self.raw):
             self.fail("is no string of an amount from 0 on")
-        if int(self.raw) > MOST_WHOLE:
-            self.fail("is above 10^18", "limit")
         return int(self.raw)
 
-    def decimal(self) -> int:
-        """The units of a decimal."""
+    def amount(self) -> int:
+        """An amount."""
+        amount = self.any_amount()
+        if amount > MOST_WHOLE:
+            self.fail("is above 10^18", "limit")
+        return amount
+
+    def any_decimal(self) -> int:
+        """The units of a decimal, also of one above the limit."""
         units = decimal_units(self.text())
         if units is None:
             self.fail("is no decimal from 0 on")
+        return units
+
+    def decimal(self) -> int:
+        """The units of a decimal."""
+        units = self.any_decimal()
         if units >= MOST_DECIMAL * ONE:
             self.fail("is 10^20 or more", "limit")
         return units
@@ -402,19 +414,29 @@ class Value:
         """A denomination and an amount."""
         return self.member("denom").denom(), self.member("amount").amount()
 
-    def coins(self, read: Callable[[Value], int] | None = None) -> Coins:
-        """Coins without those of 0; of each denomination one."""
+    def all_coins(self, read: Callable[[Value], int] | None = None,
+                  read_left: Callable[[Value], int] | None = None) -> Coins:
+        """Coins without those of 0; of each denomination one. No limit holds for those that are left out."""
         coins: dict[str, int] = {}
         for element in self.elements():
-            denom, amount = element.member("denom").denom(), (read or Value.amount)(element.member("amount"))
+            denom, amount = element.member("denom").denom(), element.member("amount")
             if denom in coins:
                 self.fail(f"has {denom} twice")
-            coins[denom] = amount
+            form = read or Value.amount if TAKEN.has(denom) else read_left or Value.any_amount
+            coins[denom] = form(amount)
         return {denom: amount for denom, amount in coins.items() if amount}
 
+    def coins(self) -> Coins:
+        """Coins of the denominations that are taken, without those of 0."""
+        return TAKEN.of(self.all_coins())
+
     def decimal_coins(self) -> Coins:
-        """Decimal coins without those of 0."""
-        return self.coins(Value.decimal)
+        """Decimal coins of the denominations that are taken, without those of 0."""
+        return TAKEN.of(self.all_coins(Value.decimal, Value.any_decimal))
+
+    def any_coins(self) -> Coins:
+        """Coins without those of 0, also those above the limit."""
+        return self.all_coins(Value.any_amount)
 
 
 def _refuse_constant(name: str) -> NoReturn:

@@ -7,6 +7,7 @@ from collections import Counter
 from typing import Any, Iterator, NamedTuple
 
 from stakeplay.node.data import COLLECTOR, MODULE_ACCOUNTS, MOST_WHOLE, RESERVE, Coins, Value, coins_of
+from stakeplay.node.denominations import TAKEN
 
 
 class Moved(NamedTuple):
@@ -58,8 +59,8 @@ def bank_event(event: Value) -> BankEvent | None:
     coins = coins_of(amount)
     if coins is None:
         event.fail(f"has no text of coins as its amount: {amount!r}", "events")
-    if coins and max(coins.values()) > MOST_WHOLE:
-        event.fail(f"has an amount above 10^18: {amount}", "limit")
+    if coins and max(TAKEN.of(coins).values(), default=0) > MOST_WHOLE:
+        event.fail(f"has an amount above 10^18 (--only leaves a denomination out): {amount}", "limit")
     if (known := event.prefix.seen.get(("", account))) is None:
         known = attribute(event, role).account()
     if known == RESERVE:
@@ -95,5 +96,5 @@ def minted(results: Value) -> Coins:
     coins: Counter[str] = Counter()
     for move in moves(results.member("begin_block_events").elements(or_null=True)):
         if is_mint(move):
-            coins.update(move.coins)
+            coins.update(TAKEN.of(move.coins))
     return dict(coins)

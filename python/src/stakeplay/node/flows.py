@@ -12,6 +12,7 @@ from typing import Any, Iterator, NoReturn
 
 from stakeplay.node.data import (AUTHORITY, BONDED, COLLECTOR, DISTRIBUTION, MODULE_ACCOUNTS, MODULES, NOT_BONDED, RESERVE, Coins,
                        Value, coins_json, coins_text, look, note)
+from stakeplay.node.denominations import TAKEN
 from stakeplay.node.events import BANK_KINDS, BankEvent, Moved, attributes, is_mint, moves
 
 Json = dict[str, Any]
@@ -19,7 +20,7 @@ Json = dict[str, Any]
 
 def transaction(payer: bytes, fee: Coins, messages: list[Json]) -> Json:
     """A transaction of a line."""
-    return {"payer": payer.hex(), "fee": coins_json(fee), "msgs": messages}
+    return {"payer": payer.hex(), "fee": coins_json(TAKEN.take(fee)), "msgs": messages}
 
 
 def send(giver: bytes, taker: bytes, coins: Coins) -> Json:
@@ -57,8 +58,8 @@ class Flows:
     def add_pair(self, move: Moved) -> None:
         """Adds what a pair of events tells, in which none of the four modules may be."""
         for account, sign in ((move.giver, -1), (move.taker, 1)):
-            if account in MODULE_ACCOUNTS and move.coins:
-                refuse_flow(account, move.coins, move.event)
+            if account in MODULE_ACCOUNTS and (coins := TAKEN.of(move.coins)):
+                refuse_flow(account, coins, move.event)
             if account is not None:
                 self.add(account, move.coins, sign)
 
@@ -78,11 +79,13 @@ class Flows:
         gains: dict[bytes, Coins] = {}
         losses: dict[bytes, Coins] = {}
         for (account, denom), amount in sorted(self.net.items()):
-            if amount:
+            if not TAKEN.has(denom):
+                TAKEN.leave(denom, max(amount, 0))
+            elif amount:
                 (gains if amount > 0 else losses).setdefault(account, {})[denom] = abs(amount)
         for account in gains | losses:
             if account in MODULE_ACCOUNTS:
-                refuse_flow(account, self.of(account), where)
+                refuse_flow(account, TAKEN.of(self.of(account)), where)
         return ([send(account, RESERVE, coins) for account, coins in losses.items()]
                 + [send(RESERVE, account, coins) for account, coins in gains.items()])
 
@@ -135,7 +138,7 @@ def beginning(results: Value) -> Beginning:
     found, minted = Beginning(events), Counter()
     for move in moves(picked(events, BANK_KINDS)):
         if is_mint(move):
-            minted.update(move.coins)
+            minted.update(TAKEN.take(move.coins))
             found.flows.add(move.giver, move.coins, -1)
         elif parties(move) not in BEGINNING_BY_ITSELF:
             found.flows.add_pair(move)
@@ -161,7 +164,7 @@ class End:
         count = len(self.spends)
         for move in moves(events):
             if is_passed and parties(move) == (DISTRIBUTION, "other"):
-                self.spends += [move] if move.coins else []
+                self.spends += [move._replace(coins=TAKEN.take(move.coins))] if move.coins else []
             elif parties(move) not in END_BY_ITSELF:
                 self.flows.add_pair(move)
         return len(self.spends) > count
@@ -170,6 +173,8 @@ class End:
         """What moved between other accounts, and then each spend of the pool."""
         yield from flow_transaction(self.flows, self.events, "end-flow")
         for spend in self.spends:
+            if not spend.coins:
+                continue
             note("pool-spend", f"{spend.event.place}: {coins_text(spend.coins)} of the community pool")
             yield transaction(AUTHORITY, {}, [{"kind": "community_pool_spend", "authority": AUTHORITY.hex(),
                                                "recipient": spend.taker.hex(), "coins": coins_json(spend.coins)}])

@@ -10,7 +10,9 @@ Status: 0 all is exact, 1 a person must look at what `look` told, 2 refused (`st
 What is told goes to standard error: `note CODE: ..` where something stands as something else, `total CODE N` for each
 such code at the end, `look CODE: ..`, `stop CODE: ..` with file and member. Lines are held back in a file until all
 answers are read, so that of a refused range nothing is written; with --at-once each line is written as soon as its
-block is read. Memory does not grow with the range.
+block is read. Memory does not grow with the range. --only names the denominations that are taken, the staked one among
+them; with --export those are left out that `from_export.py` left out of that export. `look left-out` tells of each
+denomination that was left out how much moved of it, fees and all.
 """
 from __future__ import annotations
 
@@ -29,8 +31,10 @@ from typing import Any, Iterator, TextIO
 
 from stakeplay.calling import Parser, a_height
 from stakeplay.node.answers import Answers, Folder, Pages, length
-from stakeplay.node.data import Value, look, moment_text, run, stop, told
+from stakeplay.node.data import Value, look, moment_text, read_document, run, stop, told
+from stakeplay.node.denominations import TAKEN
 from stakeplay.node.flows import Beginning, Json, beginning, end
+from stakeplay.node.left_out import denominations, leave_out_of, tell_left_out
 from stakeplay.node.messages import transactions
 
 MOST_BYTES = 4_194_304          # of a line
@@ -191,6 +195,10 @@ def arguments() -> argparse.Namespace:
     parser.add_argument("first", metavar="FIRST", type=a_height, nargs="?", help="the first height of the range")
     parser.add_argument("last", metavar="LAST", type=a_height, nargs="?", help="the last one; without both, all blocks")
     parser.add_argument("--hashes", metavar="FILE", help="where the hash of each transaction goes, by height and place")
+    parser.add_argument("--only", metavar="DENOM,..", type=denominations,
+                        help="take these denominations, the staked one among them, and leave out all others")
+    parser.add_argument("--export", metavar="EXPORT",
+                        help="the export of which the store was made: what it has too much of is left out here too")
     parser.add_argument("--at-once", action="store_true", help="write each line as soon as its block is read")
     words = parser.words()
     if words.first is not None and (words.last is None or not 1 <= words.first <= words.last):
@@ -220,15 +228,25 @@ def write(texts: Iterator[str], is_at_once: bool) -> None:
     sys.stdout.flush()
 
 
+def begin_taken(words: argparse.Namespace) -> None:
+    """Leaves denominations out: those that are not named, or those of which an export has too much."""
+    if words.only is not None:
+        TAKEN.begin(only=words.only)
+    elif words.export is not None:
+        leave_out_of(read_document(words.export), None)
+
+
 def main() -> None:
     """Writes the lines of a range, and then how many notes of each code there were."""
     words = arguments()
+    begin_taken(words)
     folder = Folder(words.folder)
     first, last = (words.first, words.last) if words.first else folder.heights()
     with open(os.devnull if words.hashes is None else words.hashes, "w", encoding="ascii") as hashes:
         hashes.write("height,tx,hash\n")
         told_hashes = None if words.hashes is None else hashes
         write(watched(lines(folder, first, last, told_hashes), last - first + 1), words.at_once)
+    tell_left_out(look, f"{words.folder}:", TAKEN.sums)
     for (word, code), count in sorted(told.items()):
         if word == "note":
             print(f"total {code} {count}", file=sys.stderr)

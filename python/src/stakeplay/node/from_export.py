@@ -7,6 +7,8 @@ of its last block. With --next, the answer to /block_results?height=N+1, the coi
 the next block are paid ahead. --reserve names the denominations whose coins other modules make or burn: of these an
 account, the reserve, holds what lacks to a supply of 10^18. What `to_export.py` writes of a store is read here too.
     python3 from_export.py genesis.json --genesis > genesis.jsonl
+--only names the denominations that are taken beside the one that is staked; without it those with a supply of at most
+10^18. The others are left out, and told with their supply.
 What is told on standard error: `note`, something became something else; `look`, a person must look at this point.
 Status: 0, or 1 after a `look`, or 2 where the input is refused: then nothing is written.
 """
@@ -15,11 +17,13 @@ from __future__ import annotations
 import argparse
 
 from stakeplay.calling import Parser, a_count
-from stakeplay.node.data import (COLLECTOR, MODULE_ACCOUNTS, RESERVE, Coins, Value, coins_text, is_denom, look, note, read_answer,
+from stakeplay.node.data import (COLLECTOR, MODULE_ACCOUNTS, RESERVE, Coins, Value, coins_text, look, note, read_answer,
                        read_document, run, stop)
+from stakeplay.node.denominations import TAKEN
 from stakeplay.node.events import minted
 from stakeplay.node.export import read_balances, read_export
 from stakeplay.node.genesis import genesis_line
+from stakeplay.node.left_out import add_only, denominations, leave_out_of, tell_left_out
 from stakeplay.node.sound import Judge, fill_reserve
 from stakeplay.node.state import State, ask_free, write_store
 
@@ -31,20 +35,28 @@ def read_words() -> argparse.Namespace:
     reader.add_argument("store", metavar="STORE", nargs="?", help="the file of the store, which must not be there")
     reader.add_argument("--head", metavar="BLOCK", help="the node's /block of the last height")
     reader.add_argument("--next", metavar="RESULTS", help="the node's /block_results of the height after it")
-    reader.add_argument("--reserve", metavar="DENOM,..", default="",
+    reader.add_argument("--reserve", metavar="DENOM,..", type=denominations, default=[],
                         help="the denominations of which the reserve holds coins")
     reader.add_argument("--power-reduction", metavar="N", type=a_count, default=1_000_000,
                         help="the tokens of one unit of power, a constant of the chain's program (1000000)")
     reader.add_argument("--genesis", action="store_true", help="write the genesis line of a chain that has not begun")
+    add_only(reader)
     words = reader.words()
     if words.genesis and (words.store, words.head, words.next) != (None, None, None):
         reader.error("--genesis writes a line: it takes no STORE, --head or --next")
     if not words.genesis and not (words.store and words.head):
         reader.error("a STORE and --head BLOCK are needed, or --genesis")
-    words.reserve = [denom for denom in words.reserve.split(",") if denom]
-    if faulty := [denom for denom in words.reserve if not is_denom(denom)]:
-        reader.error(f"no denomination: {faulty[0]}")
     return words
+
+
+def read_chain(words: argparse.Namespace) -> Value:
+    """The document, of which some denominations are left out, and told."""
+    document = read_document(words.export)
+    tell_left_out(look, document.place, leave_out_of(document, words.only))
+    for denom in words.reserve:
+        if not TAKEN.has(denom):
+            stop("left-out", f"{document.place} {denom} is left out, and --reserve names it")
+    return document
 
 
 # ---- the last block, and the coins of the next
@@ -118,7 +130,7 @@ def tell_account(entry: Value, kind: str, accounts: dict[bytes, Coins]) -> None:
 def make_store(words: argparse.Namespace) -> None:
     """Makes the store of an export."""
     ask_free(words.store)
-    document = read_document(words.export)
+    document = read_chain(words)
     ask_exported(document)
     time = time_of_head(document, words.head)
     export = read_export(document, words.power_reduction, time)
@@ -136,7 +148,7 @@ def main() -> None:
     """Makes the store, or writes the line."""
     words = read_words()
     if words.genesis:
-        document = read_document(words.export)
+        document = read_chain(words)
         tell_accounts(document, read_balances(document.at("app_state.bank")))
         print(genesis_line(document, words.power_reduction, words.reserve))
     else:

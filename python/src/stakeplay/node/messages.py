@@ -9,6 +9,7 @@ from dataclasses import dataclass
 from typing import Callable
 
 from stakeplay.node.data import COLLECTOR, RESERVE, Coins, Value, coins_json, coins_of, coins_text, decimal_text, note
+from stakeplay.node.denominations import TAKEN
 from stakeplay.node.events import BANK_KINDS, attribute, attributes, bank_event
 from stakeplay.node.flows import Flows, Json, picked, transaction
 
@@ -43,13 +44,18 @@ def operator(message: Value, name: str = "validator_address") -> str:
 
 def coin(message: Value, name: str) -> Json:
     """The coin of a member."""
-    denom, amount = message.member(name).coin()
+    value = message.member(name)
+    denom, amount = value.coin()
+    if not TAKEN.has(denom):
+        value.fail(f"is of {denom}, which is left out: --only has to name the bond denomination", "left-out")
     return {"denom": denom, "amount": str(amount)}
 
 
-def coins(message: Value, name: str) -> list[Json]:
-    """The coins of a member."""
-    return coins_json(message.member(name).coins())
+def coins(value: Value) -> Coins | None:
+    """The coins of a member that are taken; None where there are some, and all are left out."""
+    told = value.all_coins()
+    taken = TAKEN.take(told)
+    return taken if taken or not told else None
 
 
 def decimal(message: Value, name: str) -> str:
@@ -59,10 +65,15 @@ def decimal(message: Value, name: str) -> str:
 
 # ---- messages of this machine
 
+def send_of(giver: str, taker: str, given: Value) -> list[Json]:
+    """A send of coins; none where all are left out."""
+    sent = coins(given)
+    return [] if sent is None else [{"kind": "send", "from": giver, "to": taker, "coins": coins_json(sent)}]
+
+
 def send(message: Value) -> list[Json]:
     """Coins of one account for another."""
-    return [{"kind": "send", "from": user(message, "from_address"), "to": account(message, "to_address"),
-             "coins": coins(message, "amount")}]
+    return send_of(user(message, "from_address"), account(message, "to_address"), message.member("amount"))
 
 
 def multi_send(message: Value) -> list[Json]:
@@ -71,8 +82,8 @@ def multi_send(message: Value) -> list[Json]:
     if len(inputs) != 1:
         message.fail(f"has {len(inputs)} inputs, and each of a line's sends has one giver", "multi-send")
     giver = user(inputs[0], "address")
-    return [{"kind": "send", "from": giver, "to": account(output, "address"), "coins": coins(output, "coins")}
-            for output in message.member("outputs").elements()]
+    return [sent for output in message.member("outputs").elements()
+            for sent in send_of(giver, account(output, "address"), output.member("coins"))]
 
 
 def create_validator(message: Value) -> list[Json]:
@@ -146,8 +157,8 @@ def set_withdraw_address(message: Value) -> list[Json]:
 
 def fund_community_pool(message: Value) -> list[Json]:
     """Coins for the community pool; a message without any passes on a chain and does nothing, and is left out."""
-    given = coins(message, "amount")
-    return [{"kind": "fund_community_pool", "depositor": user(message, "depositor"), "coins": given}] if given else []
+    depositor, given = user(message, "depositor"), coins(message.member("amount"))
+    return [{"kind": "fund_community_pool", "depositor": depositor, "coins": coins_json(given)}] if given else []
 
 
 EXEC = "/cosmos.authz.v1beta1.MsgExec"
@@ -192,7 +203,7 @@ class Passed:
         flows = Flows()
         for event in events:
             flows.add_event(bank_event(event))
-        for denom, amount in flows.take_gain(COLLECTOR).items():
+        for denom, amount in TAKEN.take(flows.take_gain(COLLECTOR)).items():
             self.to_collector[denom] = self.to_collector.get(denom, 0) + amount
         sends = flows.sends(message)
         note("foreign-message", f"{message.place}: {message.raw['@type']} stands as {len(sends)} sends")
@@ -272,7 +283,7 @@ def transactions(tx: Value, result: Value) -> list[Json]:
         info.member("tip").fail("is a tip, which no line has", "tip")
     code, events = result.member("code").small(), picked(result.member("events"), TX_KINDS)
     paid = fee_of(events)
-    if paid and (asked := info.at("fee.amount").coins()) != paid[1]:
+    if paid and (asked := info.at("fee.amount").all_coins()) != paid[1]:
         info.at("fee.amount").fail(f"is {coins_text(asked)}, and {coins_text(paid[1])} was paid", "fee")
     if code:
         check_ante(events, paid, result)
