@@ -7,6 +7,7 @@ from __future__ import annotations
 
 import argparse
 import os
+import re
 import sys
 from typing import Any, BinaryIO, Callable, Iterable, NoReturn
 
@@ -97,6 +98,20 @@ def a_count(text: str) -> int:
     """A count among the words, from 1 on."""
     if not text.isascii() or not text.isdigit() or not 1 <= int(text) < 2 ** 63:
         raise argparse.ArgumentTypeError(f"{text!r} is no count: digits, from 1 on")
+    return int(text)
+
+
+def a_part(text: str) -> str:
+    """A part of one among the words, as a decimal from 0 to 1."""
+    if not re.fullmatch(r"[0-9]{1,9}(?:\.[0-9]{1,18})?", text) or float(text) > 1:
+        raise argparse.ArgumentTypeError(f"{text!r} is no part of one, as 0.05")
+    return text
+
+
+def a_year(text: str) -> int:
+    """A year among the words."""
+    if not re.fullmatch("(?:19[7-9]|[2-9][0-9]{2})[0-9]", text):
+        raise argparse.ArgumentTypeError(f"{text!r} is no year from 1970 to 9999")
     return int(text)
 
 

@@ -143,7 +143,7 @@ def run(main: Callable[[], int | None]) -> NoReturn:
     def judged_main() -> int | None:
         try:
             return main()
-        except (ValueError, TypeError, KeyError, AttributeError, ArithmeticError, RecursionError):
+        except (ValueError, TypeError, KeyError, IndexError, AttributeError, ArithmeticError, RecursionError, StopIteration):
             if not PLACE:
                 raise
             stop(f"line {PLACE}: this is no line of stakeplay's output")

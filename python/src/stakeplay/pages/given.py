@@ -11,7 +11,7 @@ from collections import deque
 from datetime import datetime, timezone
 from typing import Any, BinaryIO
 
-from stakeplay.lines.reading import ONE, opened, stop
+from stakeplay.lines.reading import ONE, is_genesis, opened, plain_time, stop
 from stakeplay.pages.books import Ends, Validator
 
 Json = dict[str, Any]
@@ -55,14 +55,16 @@ class Given:
             stop(f"{name}: this is neither an input of `replay` or `resume` nor statements")
         file.seek(0)
         self.rest.append((number, file))
+        if first["kind"] == "genesis" and not is_genesis(first):
+            stop(f"{name}: this is no genesis")
         if first["kind"] == "genesis" and len(self.rest) == 1:
             self.genesis = self.parsed(name, self.next_text())
 
     def parsed(self, name: str, text: bytes) -> Json:
         """A line as an object."""
         try:
-            line = json.loads(text)
-        except ValueError:
+            line = json.loads(text.decode())
+        except (ValueError, RecursionError):
             line = None
         return line if isinstance(line, dict) else stop(f"{name}: a line of it is no object of JSON")
 
@@ -89,6 +91,13 @@ class Given:
                 return self.is_in_step
             self.parsed_block, self.text = None, self.next_text()
         return False
+
+    def is_of(self, moment: str) -> bool:
+        """Whether the block to which `at` went has the moment of the output's block."""
+        if b'"time":"%s"' % moment.encode() in self.text:
+            return True
+        told = self.block().get("time")
+        return isinstance(told, str) and plain_time(told) == moment
 
     def block(self) -> Json:
         """The block to which `at` went, as an object."""

@@ -15,7 +15,7 @@ import gc
 import sys
 
 from stakeplay.addresses import bare, kind_of, prefix_of, spelled_as
-from stakeplay.calling import Parser, an_address, stop
+from stakeplay.calling import Parser, a_count, a_part, an_address, stop
 from stakeplay.lines.reading import run as guarded
 from stakeplay.pages.document import Document, page
 from stakeplay.pages.given import Given
@@ -38,9 +38,9 @@ def arguments() -> argparse.Namespace:
     parser.add_argument("--exponent", metavar="DENOM=N:NAME", type=an_exponent, action="append", default=[],
                         help="10^N units of DENOM are one NAME")
     parser.add_argument("--denom", metavar="DENOM", help="whose rewards are drawn; else the bond denomination, if it is allocated")
-    parser.add_argument("--window", metavar="N", type=int, help="the votes of the window, where no genesis tells it")
-    parser.add_argument("--min-signed", metavar="PART", help="the part of them that is to be signed, as 0.05")
-    parser.add_argument("--most-bytes", metavar="N", type=int, default=4_900_000, help="how long the file may be")
+    parser.add_argument("--window", metavar="N", type=a_count, help="the votes of the window, where no genesis tells it")
+    parser.add_argument("--min-signed", metavar="PART", type=a_part, help="the part of them that is to be signed, as 0.05")
+    parser.add_argument("--most-bytes", metavar="N", type=a_count, default=4_900_000, help="how long the file may be")
     return parser.words()
 
 
@@ -63,6 +63,8 @@ def main() -> int:
     if not run.moments:
         stop("there is no block in it, so there is nothing to draw")
     named(run)
+    if words.denom is not None and words.denom not in run.report["supply"][0]:
+        stop(f"the run has no denomination {words.denom!r}")
     sys.stdout.write(page(Document(run, dict(words.exponent)), words.most_bytes))
     for text in run.wrong:
         print(f"WRONG {text}", file=sys.stderr)

@@ -247,7 +247,7 @@ class Run:
         self.middle = MIDDLE % ((self.denom or "").encode(), self.height)
         self.given_of_block, self.given_first, self.given_last = 0, place, place
         if self.given.is_there:
-            if not self.given.at(self.height):
+            if not self.given.at(self.height) or not self.given.is_of(line["time"]):
                 stop(f"{', '.join(self.given.names)}: there is no block {self.height}, so this is not that output's input")
             self.votes.take(self.given)
 

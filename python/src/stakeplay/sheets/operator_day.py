@@ -13,10 +13,11 @@ from __future__ import annotations
 
 import argparse
 import gc
+from fractions import Fraction
 from typing import Iterator
 
 from stakeplay.addresses import bare
-from stakeplay.calling import Parser, an_operator, stop
+from stakeplay.calling import Parser, a_count, a_part, an_operator, stop
 from stakeplay.lines.reading import ONE, raw, shown
 from stakeplay.lines.reading import run as guarded
 from stakeplay.pages.books import Validator
@@ -35,10 +36,10 @@ def arguments() -> argparse.Namespace:
     parser.add_argument("inputs", metavar="INPUT", nargs="*", help="the files of its input")
     parser.add_argument("--exponent", metavar="DENOM=N:NAME", type=an_exponent, action="append", default=[],
                         help="10^N units of DENOM are one NAME")
-    parser.add_argument("--window", metavar="N", type=int, help="the votes of the window, where no genesis tells it")
-    parser.add_argument("--min-signed", metavar="PART", default="0.5", help="the part of them that is to be signed")
-    parser.add_argument("--missed", metavar="PART", type=float, default=0.5, help="of what may be missed: more wants a look")
-    parser.add_argument("--left", metavar="PART", type=float, default=0.1, help="of the stake: who leaves with more wants a look")
+    parser.add_argument("--window", metavar="N", type=a_count, help="the votes of the window, where no genesis tells it")
+    parser.add_argument("--min-signed", metavar="PART", type=a_part, default="0.5", help="the part of them that is to be signed")
+    parser.add_argument("--missed", metavar="PART", type=a_part, default="0.5", help="of what may be missed: more wants a look")
+    parser.add_argument("--left", metavar="PART", type=a_part, default="0.1", help="of the stake: who leaves with more wants a look")
     return parser.words()
 
 
@@ -111,7 +112,7 @@ class Day:
             return
         left = max(0, votes.allowed - missed)
         yield self.row("missed", f"{missed} of the last {votes.size}; {left} more before the next one jails",
-                       missed > self.words.missed * votes.allowed)
+                       missed > Fraction(self.words.missed) * votes.allowed)
 
     def visits(self) -> Iterator[str]:
         """Who came and who went, with their stakes."""
@@ -119,7 +120,7 @@ class Day:
         yield self.row("delegators", f"{self.run.delegations.get(validator.address, 0)}: {validator.came} came, {validator.went} went")
         for height, place, kind, delegator, stake in validator.visits.kept():
             amount = int(stake or 0)
-            is_great = kind == "went" and amount > self.words.left * max(1, validator.stake)
+            is_great = kind == "went" and amount > Fraction(self.words.left) * max(1, validator.stake)
             with_ = f" with {self.coins({self.run.bond or '': amount // ONE})}" if amount else ""
             yield self.row(kind, f"{delegator}{with_}, block {height}, line {place}", is_great)
 

@@ -22,7 +22,8 @@ import sys
 from decimal import ROUND_HALF_EVEN, Decimal, getcontext
 from typing import Any, Iterator, NamedTuple, TextIO
 
-from stakeplay.lines.reading import ONE, Stakes, lines, raw, stop, whole
+from stakeplay.calling import a_year
+from stakeplay.lines.reading import ONE, Input, Stakes, lines, raw, stop, whole
 from stakeplay.pages.given import Given
 from stakeplay.sheets.moves import Move, Moves
 
@@ -66,7 +67,7 @@ def an_exponent(text: str) -> tuple[str, tuple[int, str]]:
 def add_words(parser: argparse.ArgumentParser) -> None:
     """The words of a tax year."""
     group = parser.add_argument_group("a tax year, in columns that programs for taxes read")
-    group.add_argument("--year", type=int, metavar="YEAR", help="the year, by UTC; without it the sheet is the plain one")
+    group.add_argument("--year", type=a_year, metavar="YEAR", help="the year, by UTC; without it the sheet is the plain one")
     group.add_argument("--format", choices=FORMATS, default="plain", help="whose columns; plain has a sum of each kind too")
     group.add_argument("--exponent", metavar="DENOM=N:NAME", type=an_exponent, action="append", default=[],
                        help="10^N units of DENOM are one NAME; may stand again")
@@ -86,7 +87,7 @@ class Prices:
         if name is None:
             return
         try:
-            with open(name, encoding="utf-8", newline="") as file:
+            with open(name, encoding="utf-8-sig", newline="") as file:
                 for number, row in enumerate(csv.reader(file), 1):
                     if number == 1 and row and not re.match(r"\d{4}-", row[0]):
                         continue
@@ -95,6 +96,10 @@ class Prices:
                     self.at[row[0], names.get(row[1], row[1])] = Decimal(row[2])
         except OSError as fault:
             stop(f"{name}: {fault.strerror}")
+        except (ValueError, csv.Error) as fault:
+            stop(f"{name}: this is no table of prices: {fault}")
+        if not self.at:
+            stop(f"{name}: there is no price")
 
     def of(self, row: Row) -> Decimal | None:
         """The price of a row's day, which has to be there."""
@@ -315,9 +320,12 @@ def described(row: Row) -> str:
 
 def write(words: argparse.Namespace) -> None:
     """Writes the sheet of a year: the sums behind it where the columns are our own, else on standard error."""
-    given = Given([words.input] if words.input else [])
+    given = Given([] if words.input is None else [words.input])
+    held = None if words.input is None else Input(words.input)
     year = Year(words.address, words.year, given, told_hashes(words.hashes))
     for place, line in enumerate(lines(words.output), 1):
+        if held:
+            held.take(line["kind"], line)
         year.take(line, place)
     if not year.is_named and not getattr(words, "allow_unknown", False):
         stop(f"no line names {words.address}")
