@@ -40,7 +40,7 @@ class Stop(Fault):
 
     def __init__(self, code: str, text: str):
         super().__init__(f"stop {code}: {text}")
-        self.code = code
+        self.code, self.text = code, text
 
 
 told: Counter[tuple[str, str]] = Counter()  # how many lines there were of each word and code
@@ -67,10 +67,25 @@ def look(code: str, text: str) -> None:
         print(line, file=sys.stderr)
 
 
-def run(main: Callable[[], int | None]) -> NoReturn:
-    """Runs a recipe, and ends with its status; with at least 1 after a `look`, with 2 after a `stop`."""
+def begin_told() -> None:
+    """Begins anew: nothing was told."""
     told.clear()
     _looked.clear()
+
+
+def tell_again(lines: str, counts: Counter[tuple[str, str]]) -> None:
+    """Tells what another process told, and counts its notes; what a person must look at once."""
+    for line in lines.splitlines():
+        if line.startswith("look "):
+            look(*line.removeprefix("look ").split(": ", 1))
+        else:
+            print(line, file=sys.stderr)
+    told.update({key: count for key, count in counts.items() if key[0] != "look"})
+
+
+def run(main: Callable[[], int | None]) -> NoReturn:
+    """Runs a recipe, and ends with its status; with at least 1 after a `look`, with 2 after a `stop`."""
+    begin_told()
     TAKEN.begin()
     try:
         status = main() or 0

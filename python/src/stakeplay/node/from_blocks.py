@@ -10,7 +10,8 @@ Status: 0 all is exact, 1 a person must look at what `look` told, 2 refused (`st
 What is told goes to standard error: `note CODE: ..` where something stands as something else, `total CODE N` for each
 such code at the end, `look CODE: ..`, `stop CODE: ..` with file and member. Lines are held back in a file until all
 answers are read, so that of a refused range nothing is written; with --at-once each line is written as soon as its
-block is read. Memory does not grow with the range. --only names the denominations that are taken, the staked one among
+block is read. --jobs N converts parts of the range by N processes beside each other, and writes the same. Memory does not
+grow with the range. On a terminal it is told how far it is. --only names the denominations that are taken, the staked one among
 them; with --export those are left out that `from_export.py` left out of that export. `look left-out` tells of each
 denomination that was left out how much moved of it, fees and all.
 """
@@ -19,6 +20,7 @@ from __future__ import annotations
 import argparse
 import base64
 import binascii
+import functools
 import gc
 import hashlib
 import json
@@ -29,13 +31,14 @@ import tempfile
 import time
 from typing import Any, Iterator, TextIO
 
-from stakeplay.calling import Parser, a_height
+from stakeplay.calling import Parser, a_count, a_height
 from stakeplay.node.answers import Answers, Folder, Pages, length
 from stakeplay.node.data import Value, look, moment_text, read_document, run, stop, told
 from stakeplay.node.denominations import TAKEN
 from stakeplay.node.flows import Beginning, Json, beginning, end
 from stakeplay.node.left_out import denominations, leave_out_of, tell_left_out
 from stakeplay.node.messages import transactions
+from stakeplay.node.parts import beside_each_other
 
 MOST_BYTES = 4_194_304          # of a line
 ABSENT, COMMIT, NIL = 1, 2, 3   # the flags of a signature
@@ -54,8 +57,11 @@ class Voters:
 
     def follow(self, validators: Pages) -> None:
         """Goes on to the set of the next block."""
-        raw = [isinstance(one, dict) and (one.get("address"), one.get("voting_power")) for one in validators.raw]
-        if raw != self.raw:
+        try:
+            raw = [(one["address"], one["voting_power"]) for one in validators.raw]
+        except (KeyError, TypeError):   # one of them is no validator, which is told as it is read
+            raw = []
+        if not raw or raw != self.raw:
             self.votes, self.raw = [texts_of_votes(one) for one in validators.elements()], raw
 
 
@@ -73,15 +79,19 @@ def votes(answers: Answers, voters: Voters) -> str:
     if length(signatures) != len(voters.votes):
         before = f"height {answers.height - 1} has {len(voters.votes)} validators"
         signatures.fail(f"has {length(signatures)} signatures, and {before}", "votes")
-    return f"[{','.join([vote(signatures, place, voter) for place, voter in enumerate(voters.votes)])}]"
+    try:
+        texts = [voter[1] if raw["block_id_flag"] == COMMIT and raw["validator_address"] == voter[0]
+                 else vote(signatures, place, voter)
+                 for place, (raw, voter) in enumerate(zip(signatures.raw, voters.votes))]
+    except (KeyError, TypeError):   # one of them is no signature
+        texts = [vote(signatures, place, voter) for place, voter in enumerate(voters.votes)]
+    return f"[{','.join(texts)}]"
 
 
 def vote(signatures: Value, place: int, voter: tuple[str, str, str]) -> str:
     """The text of a vote: all but an absent one is signed, one for nil too."""
-    raw, (address, signed, absent) = signatures.raw[place], voter
-    if isinstance(raw, dict) and raw.get("block_id_flag") == COMMIT and raw.get("validator_address") == address:
-        return signed
-    signature = signatures.elements()[place]
+    address, signed, absent = voter
+    signature = Value(signatures.raw[place], signatures.prefix, place, signatures)
     flag, told = signature.member("block_id_flag"), signature.member("validator_address")
     if flag.small() not in (ABSENT, COMMIT, NIL):
         flag.fail(f"is {flag.raw}, which is no flag", "votes")
@@ -199,6 +209,7 @@ def arguments() -> argparse.Namespace:
                         help="take these denominations, the staked one among them, and leave out all others")
     parser.add_argument("--export", metavar="EXPORT",
                         help="the export of which the store was made: what it has too much of is left out here too")
+    parser.add_argument("--jobs", metavar="N", type=a_count, default=1, help="convert by so many processes (1)")
     parser.add_argument("--at-once", action="store_true", help="write each line as soon as its block is read")
     words = parser.words()
     if words.first is not None and (words.last is None or not 1 <= words.first <= words.last):
@@ -206,14 +217,31 @@ def arguments() -> argparse.Namespace:
     return words
 
 
-def watched(texts: Iterator[str], most: int) -> Iterator[str]:
-    """The same lines; each thousandth tells how far it is."""
-    began = time.monotonic()
-    for count, text in enumerate(texts, 1):
+def watched(texts: Iterator[str], first: int, last: int) -> Iterator[str]:
+    """The same lines; on a terminal a line each second tells how far it is."""
+    if not sys.stderr.isatty():
+        yield from texts
+        return
+    began = shown = time.monotonic()
+    for height, text in enumerate(texts, first):
         yield text
-        if count % 1000 == 0:
-            speed = count / (time.monotonic() - began)
-            print(f"from_blocks.py: {count} of {most} blocks, {speed:.0f} a second", file=sys.stderr)
+        now = time.monotonic()
+        if now >= shown + 1:
+            shown, speed = now, (height - first + 1) / (now - began)
+            print(f"from_blocks.py: height {height} of {last}, {speed:.0f} blocks a second, "
+                  f"{(last - height) / speed:.0f} s left", file=sys.stderr)
+
+
+def part_lines(folder: str, first: int, last: int, hashes: TextIO | None) -> Iterator[str]:
+    """The lines of a part of a folder's blocks."""
+    return lines(Folder(folder), first, last, hashes)
+
+
+def range_lines(words: argparse.Namespace, first: int, last: int, hashes: TextIO | None) -> Iterator[str]:
+    """The lines of a range, by as many processes as are asked for."""
+    if words.jobs == 1:
+        return part_lines(words.folder, first, last, hashes)
+    return beside_each_other(functools.partial(part_lines, words.folder), first, last, words.jobs, hashes)
 
 
 def write(texts: Iterator[str], is_at_once: bool) -> None:
@@ -240,12 +268,11 @@ def main() -> None:
     """Writes the lines of a range, and then how many notes of each code there were."""
     words = arguments()
     begin_taken(words)
-    folder = Folder(words.folder)
-    first, last = (words.first, words.last) if words.first else folder.heights()
+    first, last = (words.first, words.last) if words.first else Folder(words.folder).heights()
     with open(os.devnull if words.hashes is None else words.hashes, "w", encoding="ascii") as hashes:
         hashes.write("height,tx,hash\n")
         told_hashes = None if words.hashes is None else hashes
-        write(watched(lines(folder, first, last, told_hashes), last - first + 1), words.at_once)
+        write(watched(range_lines(words, first, last, told_hashes), first, last), words.at_once)
     tell_left_out(look, f"{words.folder}:", TAKEN.sums)
     for (word, code), count in sorted(told.items()):
         if word == "note":
