@@ -18,6 +18,7 @@ import tempfile
 import time
 from typing import Any, Iterator
 
+WAIT = 300      # seconds for an answer: a busy machine takes long, and a check that gives up tells nothing
 NAMES = "chromium", "chromium-browser", "google-chrome"
 Json = dict[str, Any]
 
@@ -60,7 +61,7 @@ class Browser:
         while data:
             data = data[os.write(self.asks, data):]
         while True:
-            line = self.next_line(60)
+            line = self.next_line(WAIT)
             if line is None:
                 raise RuntimeError(f"the browser does not answer {method}")
             if line.get("id") == self.number:
@@ -95,7 +96,7 @@ class Browser:
 
     def until(self, what: str) -> None:
         """Waits until an expression holds."""
-        end = time.monotonic() + 60
+        end = time.monotonic() + WAIT
         while not self.value(what):
             if time.monotonic() > end:
                 raise RuntimeError(f"this never came: {what}")

@@ -102,8 +102,18 @@ class Told:
         return self.back(last, lambda line: {"bonded": 1, "unbonding": -1}.get(line.get("status", ""), 0) if line["kind"] == "status" else 0)
 
     def jailed(self) -> dict[int, int]:
-        last = sum(line["jailed"] for _, line in self.reported("validator"))
-        return self.back(last, lambda line: {"jailed": 1, "unjailed": -1}.get(line["kind"], 0))
+        """How many are jailed: who was jailed in these blocks and left neither jail nor the chain, and who was before."""
+        last, now, after = sum(line["jailed"] for _, line in self.reported("validator")), set(), {}
+        left = 0
+        for height in self.heights:
+            for _, line in self.blocks[height]:
+                if line["kind"] == "jailed":
+                    now.add(line["validator"])
+                elif line["kind"] in ("unjailed", "removed"):
+                    left += line["kind"] == "unjailed" and line["validator"] not in now
+                    now.discard(line["validator"])
+            after[height] = len(now) - left
+        return {height: count + last - after[self.heights[-1]] for height, count in after.items()}
 
     def balance(self, address: str, denom: str) -> dict[int, int]:
         def change(line: Json) -> int:
@@ -150,9 +160,16 @@ class Told:
         """Of each validator its stake, its rank, and of each delegator its stake, after each block; and what slashes took."""
         self.lost: dict[str, list[int]] = defaultdict(list)
         at: dict[tuple[str, str], int] = {}
-        for line in self.genesis["delegations"]:
+        first = [] if self.genesis else self.lines[:next(n for n, line in enumerate(self.lines) if line["kind"] == "block")]
+        worth = {line["operator"]: (int(line["tokens"]), units(line["shares"])) for line in first if line["kind"] == "validator"}
+        for line in first:
+            if line["kind"] == "delegation":
+                tokens, shares = worth[line["validator"]]
+                at[line["validator"], line["delegator"]] = units(line["shares"]) * tokens * ONE // shares
+        for line in self.genesis["delegations"] if self.genesis else []:
             at[line["validator"], line["delegator"]] = int(line["amount"]) * ONE
-        stand = {line["operator"] for line in self.genesis["validators"]}
+        stand = {line["operator"] for line in self.genesis["validators"]} if self.genesis else {*worth}
+        seen = {*stand}
         stake: Any = defaultdict(dict)
         rank: Any = defaultdict(dict)
         own: Any = defaultdict(dict)
@@ -171,6 +188,7 @@ class Told:
                         at[pair] = kept
                 elif kind == "period" and line["period"] == 1:
                     stand.add(who[0])
+                    seen.add(who[0])
                 elif kind == "removed":
                     stand.discard(who[0])
             sums: dict[str, int] = defaultdict(int)
@@ -178,7 +196,7 @@ class Told:
             for (operator, delegator), amount in at.items():
                 sums[operator] += amount
                 ours[delegator] += amount
-            for operator in stand:
+            for operator in seen:
                 stake[operator][height] = sums[operator]
             for delegator, amount in ours.items():
                 own[delegator][height] = amount
@@ -190,8 +208,10 @@ class Told:
         """The misses among the last votes of a window after each block: a list of all votes, anew at each downtime."""
         params, votes, after, jailed, start = self.genesis["params"], [], {}, False, 0
         size = params["signed_blocks_window"]
+        changes = [line for _, line in self.facts("status") if line["validator"] == operator]
+        has_record = not changes or changes[0]["status"] != "bonded"    # else it begins when it is bonded first
         for height in self.heights:
-            vote = [v for v in self.given[height]["votes"] if v["cons"] == cons]
+            vote = [v for v in self.given[height]["votes"] if v["cons"] == cons and has_record]
             if vote and not jailed:
                 votes.append(vote[0]["signed"])
             if vote and not jailed and height > start + size and votes[-size:].count(False) * 2 > size and params["min_signed_per_window"] == "0.5":
@@ -200,6 +220,7 @@ class Told:
                 if line.get("validator") == operator:
                     jailed = {"jailed": True, "unjailed": False}.get(line["kind"], jailed)
                     start = height if line.get("status") == "bonded" else start
+                    has_record = has_record or line.get("status") == "bonded"
             after[height] = votes[-size:].count(False)
         return after
 
@@ -243,7 +264,7 @@ class Curves:
         ask(found == wanted, f"{path}: {len(found)} points, and there are to be {len(wanted)}: {[p for p in found if p not in wanted][:3]} "
                              f"in place of {[p for p in wanted if p not in found][:3]}")
 
-    def after(self, path: str, values: dict[int, int], width: int, places: int = 0) -> None:
+    def after(self, path: str, values: dict[int, int], width: int, places: int = 0, last: int | None = None) -> None:
         """A curve of what stands after blocks: its points are right, and no step lacks a least, greatest or last change."""
         found = self.points(path, places)
         for height, value, place in found:
@@ -251,7 +272,7 @@ class Curves:
             file, line = divmod(place, FILES)
             has = json.loads(self.told.texts[file][line - 1])
             ask(has.get("height", height) == height or (file == 1 and line == 1), f"{path}: line {line} of file {file} is not of block {height}")
-        steps, last = defaultdict(list), None
+        steps = defaultdict(list)
         for height in sorted(values):
             if values[height] != last:
                 steps[(height - self.first) // width].append(values[height])
@@ -293,7 +314,7 @@ class Curves:
 
     def of_validators(self) -> None:
         told, (_, width, _), denom = self.told, self.data["run"]["widths"], self.data["run"]["denom"]
-        stake, rank, _ = told.stakes() if told.genesis else ({}, {}, {})
+        stake, rank, _ = told.stakes()
         for place, row in enumerate(self.data["validators"]):
             path, operator = f"validators[{place}].series", row["a"]
             for name in row["series"]:
@@ -304,14 +325,15 @@ class Curves:
                 elif name == "given":
                     self.exactly(f"{path}.given", told.shares(operator, denom), width, 18)
                 elif name == "delegators":
-                    self.after(f"{path}.delegators", told.delegators(operator), width)
+                    self.after(f"{path}.delegators", told.delegators(operator), width, last=0 if not row.get("stands") or row["came"] else None)
                 elif name == "withdrawn":
                     self.exactly(f"{path}.withdrawn", told.added("commission", denom, lambda line: line["validator"] == operator), width)
                 elif name == "missed" and told.genesis:
-                    after = told.missed(row["cons"], operator)
-                    self.after(f"{path}.missed", after, width)
-                    signing = [line for _, line in told.reported("signing") if line["cons"] == row["cons"]]
-                    ask(after[told.heights[-1]] == signing[0]["missed"], f"this check reckons other misses of {operator} than the report has")
+                    cons = row.get("cons") or next(line["cons"] for line in told.genesis["validators"] if line["operator"] == operator)
+                    after = told.missed(cons, operator)
+                    self.after(f"{path}.missed", after, width, last=0)
+                    signing = [line for _, line in told.reported("signing") if line["cons"] == cons]
+                    ask(not signing or after[told.heights[-1]] == signing[0]["missed"], f"this check reckons other misses of {operator} than the report has")
 
     def of_addresses(self) -> None:
         told, (_, _, width) = self.told, self.data["run"]["widths"]
@@ -493,8 +515,8 @@ class Hands:
         for chart in range(self.page.value("stakeplay.charts().length")):
             x, y = self.where(f"stakeplay.charts()[{chart}].picture")
             self.page.mouse("move", x + 7, y)
-            tip = self.page.value("({...document.getElementById('tip').dataset, hidden: document.getElementById('tip').hidden, text: document.getElementById('tip').textContent})")
             self.page.mouse("click", x + 7, y)
+            tip = self.page.value("({...document.getElementById('tip').dataset, hidden: document.getElementById('tip').hidden, text: document.getElementById('tip').textContent})")
             shown = self.page.value("({...document.getElementById('fact').dataset})")
             line = self.told.texts[int(shown["file"] != str(self.told.out))][int(shown["line"]) - 1]
             title = self.page.value(f"stakeplay.charts()[{chart}].title")
@@ -643,8 +665,8 @@ def try_case(case: Case, page: browser.Browser, pictures: pathlib.Path) -> None:
 
 
 def draw(path: pathlib.Path, page: browser.Browser, room: pathlib.Path) -> None:
-    """The picture of README: a run of long_run.py, as its page begins."""
-    given = subprocess.run([sys.executable, str(RECIPES / "long_run.py"), "20000"], capture_output=True, check=True).stdout
+    """The picture of README: a generated run, as its page begins."""
+    given = played(["-", "gen", "7", "3000"], b"")
     (room / "run.jsonl").write_bytes(given)
     (room / "run.out").write_bytes(played(["-", "replay"], given))
     here = os.getcwd()

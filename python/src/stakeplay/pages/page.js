@@ -62,7 +62,7 @@ const whole = text => BigInt(text.replace(".", "") || 0);
 /** A part of a whole in percent, cut to `places`. */
 function share(part, of, places = 2) {
   if (of <= 0n) return "";
-  return cut(shift(decimal(String(part * 10n ** BigInt(places + 2) / of), places + 2), -2), places) + "%";
+  return cut(shift(decimal(String(part * 10n ** 14n / of), 14), -2), places).replace(MORE, "") + "%";
 }
 
 // ---- moments

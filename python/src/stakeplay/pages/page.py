@@ -11,6 +11,7 @@ Status: 0; 1 where the lines do not add up, which the page says too; 2 where the
 from __future__ import annotations
 
 import argparse
+import gc
 import sys
 
 from stakeplay.addresses import bare, kind_of, prefix_of, spelled_as
@@ -72,4 +73,5 @@ def main() -> int:
 
 def command() -> None:
     """Runs the recipe."""
+    gc.disable()    # what is kept of a run has no cycles, and looking for some takes a good part of the time
     guarded(main)

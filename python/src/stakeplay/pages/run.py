@@ -33,7 +33,7 @@ AMOUNTS = re.compile(rb"\d+\.\d{18}(?: \d+\.\d{18})*")
 def chunks(file: BinaryIO) -> Iterator[bytes]:
     """The bytes of a file in whole lines, but for a last one that is cut."""
     rest = b""
-    while text := file.read(1 << 20):
+    while text := file.read(1 << 22):
         text = rest + text
         end = text.rfind(b"\n") + 1
         rest = text[end:]

@@ -12,6 +12,7 @@ Status: 0; 1 where something wants a look; 2 where the output is cut or of anoth
 from __future__ import annotations
 
 import argparse
+import gc
 from fractions import Fraction
 from typing import Iterator
 
@@ -149,4 +150,5 @@ def main() -> int:
 
 def command() -> None:
     """Runs the recipe."""
+    gc.disable()    # what is kept of a run has no cycles, and looking for some takes a good part of the time
     guarded(main)

@@ -4,7 +4,7 @@
 A reward counts at the moment at which it was paid, in whole coins; one that went to another payee is a reward and then
 sent. A slash is a loss, as far as stakes bore it, cut to whole units. Delegating, redelegating and unbonding move nothing
 out: what is staked stays the address's own, so formats of others have no rows for them, and the balance there is all that
-the address has. A row of a transaction has its hash where the node's answers (`--blocks`) have the block.
+the address has. A row of a transaction has its hash where `--hashes` has it, a file of `from_blocks.py`.
 
 The year's opening balance, what the rows add and take, and the closing balance add up by the unit for each denomination,
 and the rows of the whole run lead from what stood first (a genesis of the input, or a report in front) to the report at
@@ -15,22 +15,16 @@ burned, and some units more or less, since shares round; by how much is the last
 from __future__ import annotations
 
 import argparse
-import base64
-import contextlib
 import csv
-import hashlib
 import io
-import os
 import re
 import sys
 from decimal import ROUND_HALF_EVEN, Decimal, getcontext
 from typing import Any, Iterator, NamedTuple, TextIO
 
 from stakeplay.calling import a_year
+from stakeplay.lines.hashes import hashes_of
 from stakeplay.lines.reading import ONE, Input, Stakes, lines, raw, stop, whole
-from stakeplay.node.answers import Folder
-from stakeplay.node.flows import beginning
-from stakeplay.node.messages import transactions
 from stakeplay.pages.given import Given
 from stakeplay.sheets.moves import Move, Moves
 
@@ -80,7 +74,7 @@ def add_words(parser: argparse.ArgumentParser) -> None:
                        help="10^N units of DENOM are one NAME; may stand again")
     group.add_argument("--prices", metavar="FILE", help="rows of date, NAME or DENOM, price: that of the day")
     group.add_argument("--currency", metavar="NAME", default="EUR", help="in which the prices are")
-    group.add_argument("--blocks", metavar="FOLDER", help="a node's answers, as from_blocks.py reads them, for the hashes")
+    group.add_argument("--hashes", metavar="FILE", help="rows of height, transaction and hash, as from_blocks.py writes them")
 
 
 # ---- prices, hashes
@@ -116,30 +110,13 @@ class Prices:
         return price if price is not None else stop(f"{self.name}: there is no price of {row.denom} on {row.time[:10]}")
 
 
-def hashes_of(folder: Folder, height: int) -> list[str]:
-    """The hash of each transaction of a block's line: of one that came of the block's own, nothing."""
-    if not os.path.exists(folder.name("block", height)):
-        return []
-    with contextlib.redirect_stderr(io.StringIO()):     # what is to be told of the answers, from_blocks.py tells
-        folder.chain_id = folder.last_hash = ""
-        results = folder.results(height)
-        answers = folder.answers(height, results)
-        own = beginning(answers.results)
-        found = [""] * (len(list(own.transactions())) + (len(list(own.fee(""))) if height == 1 else 0))
-        sent = answers.block.at("data.txs").raw or []
-        for tx, result, data in zip(answers.txs.elements(), answers.results.member("txs_results").elements(or_null=True), sent):
-            name = hashlib.sha256(base64.b64decode(data)).hexdigest().upper()
-            found += [name] * len(transactions(tx, result))
-    return found
-
-
 # ---- rows
 
 class Year:
     """The rows of a year, and what the address had before and after them."""
 
-    def __init__(self, address: str, year: int, given: Given, folder: Folder | None) -> None:
-        self.address, self.year, self.folder = address, year, folder
+    def __init__(self, address: str, year: int, given: Given, told: dict[tuple[int, int], str]) -> None:
+        self.address, self.year, self.told = address, year, told
         self.stakes = Stakes(lambda delegator, _: delegator == address, given if given.genesis else None)
         self.moves = Moves(address, self.stakes)
         self.times: dict[int, str] = {}
@@ -152,7 +129,6 @@ class Year:
         self.is_staked_first = False        # whether what was staked first is told
         self.bond, self.tokens = "", {}     # type: str, dict[str, tuple[int, int]]
         self.is_begun = self.is_named = self.is_last = False    # is_last: the last block is of the year
-        self.hashes: tuple[int, list[str]] = 0, []
         if given.genesis:
             told = [line for line in given.genesis["accounts"] if line["address"] == address]
             self.first = whole(told[0]["coins"]) if told else {}
@@ -216,13 +192,8 @@ class Year:
         return opening, opening + self.staked["during"], self.staked["report"] - first - moved
 
     def hash_of(self, move: Move) -> str:
-        """The hash of a move's transaction, where the node's answers are there."""
-        if self.folder is None or move.tx < 0:
-            return ""
-        if self.hashes[0] != move.height:
-            self.hashes = move.height, hashes_of(self.folder, move.height)
-        found = self.hashes[1]
-        return found[move.tx] if move.tx < len(found) else ""
+        """The hash of a move's transaction, where the file of hashes has it."""
+        return self.told.get((move.height, move.tx), "")
 
     def opening(self) -> dict[str, int]:
         """The balance at the beginning of the year; what stood first is told, or reckoned back from the report."""
@@ -338,7 +309,7 @@ def write(words: argparse.Namespace) -> None:
     """Writes the sheet of a year: the sums behind it where the columns are our own, else on standard error."""
     given = Given([] if words.input is None else [words.input])
     held = None if words.input is None else Input(words.input)
-    year = Year(words.address, words.year, given, Folder(words.blocks) if words.blocks else None)
+    year = Year(words.address, words.year, given, hashes_of(words.hashes))
     for place, line in enumerate(lines(words.output), 1):
         if held:
             held.take(line["kind"], line)
