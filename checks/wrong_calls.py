@@ -166,6 +166,8 @@ class Calls:
         bad = [name for name in bad_files(self.room, statements, [self.out, moved]) if "/empty-" not in name]
         yield from in_place(words, 5, bad)
         yield Call(["tax_sheet.py", USER, str(self.out), "statements="])
+        yield Call(["tax_sheet.py", USER, str(self.out), "--hashes", str(self.room)])
+        yield Call(["tax_sheet.py", USER, str(self.out), "--hashes", str(self.out)])
 
     def reconcile(self) -> Iterator[Call]:
         words = ["reconcile.py", "1", "5", str(self.out), USER, OTHER]
@@ -371,6 +373,11 @@ class Calls:
         yield from in_place([*words, "--exponent", ""], 9, WRONG_EXPONENTS)
         prices = self.room / "prices.csv"
         prices.write_text("date,denom,price\n2024-01-01,uatom,0.00001\n")
+        hashes = self.room / "year-hashes.csv"
+        hashes.write_text("height,tx,hash\n3,1,ABCDEF\n")
+        yield Call([*words, "--hashes", str(hashes)], is_right=True)
+        bad = [name for name in bad_files(self.room, hashes, [self.out]) if "/marked-" not in name]
+        yield from in_place([*words, "--hashes", ""], 9, bad)
         bad = [name for name in bad_files(self.room, prices, [self.out]) if "/marked-" not in name]  # spreadsheets mark it so
         yield from in_place([*words, "--prices", ""], 9, bad)
 

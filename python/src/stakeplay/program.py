@@ -32,8 +32,8 @@ def program() -> str:
     """The path of the program."""
     script = pathlib.Path(__file__).resolve().parents[3] / "stakeplay.sh"
     named = os.environ.get("STAKEPLAY")
-    found = named or shutil.which("stakeplay") or shutil.which("stakeplay.sh")
-    return found or (str(script) if script.exists() else "") or stop("there is no program: put `stakeplay` on the path, or its path into the variable STAKEPLAY")
+    found = named or shutil.which("stakeplay") or shutil.which("stakeplay.sh") or (str(script) if script.exists() else "")
+    return found or stop("there is no program: put `stakeplay` on the path, or its path into the variable STAKEPLAY")
 
 
 def _bytes_of(line: Line) -> bytes:

@@ -20,30 +20,14 @@ import sys
 from typing import Any
 
 from stakeplay.addresses import bare
-from stakeplay.calling import Asked, Parser, an_address, opened, stop
+from stakeplay.calling import Asked, Parser, an_address
+from stakeplay.lines.hashes import Hashes, hashes_of
 from stakeplay.lines.reading import COLLECTOR, Input, lines, run
 from stakeplay.tables import refusals, shapes
 
 Json = dict[str, Any]
-Hashes = dict[tuple[int, int], str]
 COLUMNS = "time height tx msg number name condition detail message payer hash".split()
 SIGNERS = "from validator delegator depositor authority".split()    # members of messages that name whose they are
-
-
-def hashes_of(name: str) -> Hashes:
-    """The hashes of a file of `from_blocks.py`, by height and place."""
-    found: Hashes = {}
-    with opened(name) as file:
-        for place, text in enumerate(file, 1):
-            words = text.decode(errors="replace").strip().split(",")
-            if place == 1 and words == ["height", "tx", "hash"]:
-                continue
-            if len(words) != 3 or not (words[0] + words[1]).isdigit() or not words[2].isalnum():
-                stop(f"{name}: line {place} has no height, place and hash")
-            found[int(words[0]), int(words[1])] = words[2]
-    if not found:
-        stop(f"{name}: no hash stands there")
-    return found
 
 
 def detail_of(line: Json) -> str:
@@ -111,7 +95,7 @@ def main() -> None:
     """Writes the sheet."""
     words = arguments()
     asked = Asked([] if words.address is None else [words.address], allow_unknown=words.allow_unknown)
-    hashes = hashes_of(words.hashes) if words.hashes is not None else {}
+    hashes = hashes_of(words.hashes)
     sheet = Sheet(asked, Input(words.input) if words.input is not None else None, hashes)
     for line in lines(words.output):
         sheet.take(line)

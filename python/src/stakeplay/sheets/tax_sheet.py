@@ -19,7 +19,7 @@ Whether a statement is right is another question: `check_statement.py`.
 A refusal names nobody: it is told of the payer of its fee, so one without a fee is told only with the input beside
 the output, as is what a slash takes of a delegation of the genesis. Burns of unbonding entries name no delegator and
 are in no sheet; what is left of an entry is the row `unbonded`. A row of a refusal ends by the place of its message,
-its kind (with the input), and the refusal's name and condition; `refusals.py` has more.
+its kind (with the input), the refusal's name and condition, and with `--hashes` the transaction's hash.
 With --year the sheet is that of a tax year, in whole coins, with values of --prices, hashes of --hashes, a sum of each
 kind, and balances that add up; with --format in the columns of Koinly or CoinTracking (written from memory of them).
 Delegating, redelegating and unbonding move nothing out there: what is staked stays the address's own.
@@ -34,6 +34,7 @@ import sys
 
 from stakeplay.calling import Asked, Parser, an_address
 from stakeplay.sheets import tax_year
+from stakeplay.lines.hashes import Hashes, hashes_of
 from stakeplay.lines.reading import COLLECTOR, DISTRIBUTION, MODULES, NOT_BONDED, ONE, Input, Stakes
 from stakeplay.lines.reading import bare, lines, opened, run, stop, units, shown, whole
 from stakeplay.tables import refusal_named
@@ -69,6 +70,7 @@ def is_same(s, other):
 class Sheet:
     def __init__(self, address, given, statements, asked):
         self.statements, self.asked, self.stated, self.first = statements, asked, [], None
+        self.hashes: Hashes = {}
         self.address, self.given, self.out = address, given, csv.writer(sys.stdout, lineterminator="\n")
         self.time = self.height = ""
         self.payer, self.waiting = None, {}  # who paid this transaction's fee; coins whose reason comes a line later
@@ -155,7 +157,8 @@ class Sheet:
             self.asked.name(self.address)
             place = f"tx {line['tx']}" + (f" msg {line['msg']}" if "msg" in line else "")
             kind = f" {sent['msgs'][line['msg']]['kind']}" if sent and "msg" in line else ""
-            why = f"{place}{kind}: {refusal_named(line['number'])}"
+            own = self.hashes.get((line["height"], line["tx"]))
+            why = f"{place}{kind}: {refusal_named(line['number'])}" + (f" ({own})" if own else "")
             self.out.writerow([self.time, self.height, f"refused {line['number']}", "", "", "", "", why])
         self.payer = None
 
@@ -193,6 +196,7 @@ def main() -> None:
     asked = Asked([words.address], allow_unknown=words.allow_unknown)
     statements = statements_of(words.statements) if words.statements is not None else {}
     sheet = Sheet(words.address, Input(words.input) if words.input is not None else None, statements, asked)
+    sheet.hashes = hashes_of(words.hashes)
     for line in lines(words.output):
         sheet.take(line)
     sheet.end()
