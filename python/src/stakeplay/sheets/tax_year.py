@@ -23,6 +23,7 @@ from decimal import ROUND_HALF_EVEN, Decimal, getcontext
 from typing import Any, Iterator, NamedTuple, TextIO
 
 from stakeplay.calling import a_year
+from stakeplay.lines.hashes import hashes_of
 from stakeplay.lines.reading import ONE, Input, Stakes, lines, raw, stop, whole
 from stakeplay.pages.given import Given
 from stakeplay.sheets.moves import Move, Moves
@@ -107,20 +108,6 @@ class Prices:
             return None
         price = self.at.get((row.time[:10], row.denom))
         return price if price is not None else stop(f"{self.name}: there is no price of {row.denom} on {row.time[:10]}")
-
-
-def told_hashes(name: str | None) -> dict[tuple[int, int], str]:
-    """The hashes of a file, by height and place of the transaction."""
-    if name is None:
-        return {}
-    try:
-        with open(name, encoding="utf-8", newline="") as file:
-            rows = [row for row in csv.reader(file) if row and row[0].isdigit()]
-        return {(int(height), int(place)): text for height, place, text in rows}
-    except OSError as fault:
-        stop(f"{name}: {fault.strerror}")
-    except ValueError:
-        stop(f"{name}: a line is to be a height, the place of a transaction and its hash")
 
 
 # ---- rows
@@ -322,7 +309,7 @@ def write(words: argparse.Namespace) -> None:
     """Writes the sheet of a year: the sums behind it where the columns are our own, else on standard error."""
     given = Given([] if words.input is None else [words.input])
     held = None if words.input is None else Input(words.input)
-    year = Year(words.address, words.year, given, told_hashes(words.hashes))
+    year = Year(words.address, words.year, given, hashes_of(words.hashes))
     for place, line in enumerate(lines(words.output), 1):
         if held:
             held.take(line["kind"], line)
