@@ -1,7 +1,7 @@
 use Rattle.std.proofs.Common.{◌≡◌, ◌∙◌, true, length, map, sym, ap, subst}
 use Rattle.mod_recorder.specs.Recorded.{Recorded, are_rising, noted_at}
 use Rattle.mod_recorder.proofs.RecordLemmas.{grown_marks, grown_settled, grown_up}
-use Rattle.mod_recorder.proofs.recorder.Recorder.note.Goals as goal
+use Rattle.mod_recorder.proofs.recorder.Recorder.put.Goals as goal
 
 pub invariant_of-self-2 : goal.invariant_of-self-2
 invariant_of-self-2 c =
