@@ -9,11 +9,17 @@ use base_types::Addr;
 #[derive(Clone, Copy, Debug)]
 pub enum Hook {
     /// After a validator was created (`AfterValidatorCreated`).
-    Created { validator: Validator },
+    Created {
+        validator: Validator,
+    },
     /// After a validator was removed (`AfterValidatorRemoved`).
-    Removed { validator: Validator },
+    Removed {
+        validator: Validator,
+    },
     /// After a validator joined the bonded set (`AfterValidatorBonded`).
-    Bonded { validator: Validator },
+    Bonded {
+        validator: Validator,
+    },
     /// Before a delegation is created (`BeforeDelegationCreated`).
     Starting {
         validator: Validator,
@@ -32,5 +38,8 @@ pub enum Hook {
         shares: Dec,
     },
     /// Before a validator loses this part of its tokens (`BeforeValidatorSlashed`).
-    Slashing { validator: Validator, fraction: Dec },
+    Slashing {
+        validator: Validator,
+        fraction: Dec,
+    },
 }

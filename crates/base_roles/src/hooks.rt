@@ -133,7 +133,10 @@ pub trait StakingHooks {
         ensures bank { B.most_steps g.new.bank ≡ B.most_steps g.old.bank }
         ensures marks { marks self.new ≡ marks self.old }
     {
-        let hook = Hook::Starting { validator: *v, delegator: *delegator };
+        let hook = Hook::Starting {
+            validator: *v,
+            delegator: *delegator,
+        };
         self.hear(alloc, g, &hook, steps)
     }
 
@@ -156,7 +159,11 @@ pub trait StakingHooks {
         ensures bank { B.most_steps g.new.bank ≡ B.most_steps g.old.bank }
         ensures marks { marks self.new ≡ marks self.old }
     {
-        let hook = Hook::Modifying { validator: *v, delegator: *delegator, shares };
+        let hook = Hook::Modifying {
+            validator: *v,
+            delegator: *delegator,
+            shares,
+        };
         self.hear(alloc, g, &hook, steps)
     }
 
@@ -179,7 +186,11 @@ pub trait StakingHooks {
         ensures bank { B.most_steps g.new.bank ≡ B.most_steps g.old.bank }
         ensures marks { marks self.new ≡ marks self.old }
     {
-        let hook = Hook::Modified { validator: *v, delegator: *delegator, shares };
+        let hook = Hook::Modified {
+            validator: *v,
+            delegator: *delegator,
+            shares,
+        };
         self.hear(alloc, g, &hook, steps)
     }
 
@@ -201,7 +212,10 @@ pub trait StakingHooks {
         ensures bank { B.most_steps g.new.bank ≡ B.most_steps g.old.bank }
         ensures marks { marks self.new ≡ marks self.old }
     {
-        let hook = Hook::Slashing { validator: *v, fraction };
+        let hook = Hook::Slashing {
+            validator: *v,
+            fraction,
+        };
         self.hear(alloc, g, &hook, steps)
     }
 
