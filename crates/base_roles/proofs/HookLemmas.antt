@@ -1,7 +1,6 @@
 -- For callers of hooks.
 use Rattle.std.proofs.Common.{◌≡◌, ◌∙◌, ℕ, ◌≤◌, false, List, refl, sym, ap, subst, Result, Ok}
-use Rattle.std.specs.Prelude.{⊤}
-use Rattle.std.specs.BTreeMap.{is_at}
+use Rattle.std.specs.{Prelude.⊤, BTreeMap.is_at}
 use Rattle.base_types.specs.{declared.account.{Account.Account, Module.TheVariants.Distribution}, Orders.account_cmp}
 use Rattle.base_types.specs.declared.account.Account.TheVariants as account
 use Rattle.base_coins.specs.Coins.{Money}
