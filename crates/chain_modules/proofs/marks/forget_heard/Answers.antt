@@ -1,4 +1,4 @@
-use Rattle.chain_modules.proofs.marks.forget_overheard.Goals as goal
+use Rattle.chain_modules.proofs.marks.forget_heard.Goals as goal
 
 pub forget-requires : goal.forget-requires
 forget-requires g c = c.requires.hooks
