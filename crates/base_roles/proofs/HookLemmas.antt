@@ -1,10 +1,10 @@
 -- For callers of hooks.
-use Rattle.std.proofs.Common.{◌≡◌, ◌∙◌, ℕ, ◌≤◌, false, List, refl, sym, ap, subst, Ok}
-use Rattle.std.specs.BTreeMap.{is_at}
+use Rattle.std.proofs.Common.{◌≡◌, ◌∙◌, ℕ, ◌≤◌, false, List, refl, sym, ap, subst, Result, Ok}
+use Rattle.std.specs.{Prelude.⊤, BTreeMap.is_at}
 use Rattle.base_types.specs.{declared.account.{Account.Account, Module.TheVariants.Distribution}, Orders.account_cmp}
 use Rattle.base_types.specs.declared.account.Account.TheVariants as account
 use Rattle.base_coins.specs.Coins.{Money}
-use Rattle.base_roles.specs.{declared.facts.Fact.Fact, Answers.Answers, Ground.IsInOrder}
+use Rattle.base_roles.specs.{declared.{facts.Fact.Fact, faults.HookFault.HookFault}, Answers.Answers, Ground.IsInOrder}
 use Rattle.base_roles.specs.Holdings.{Holdings, IsBacked, balance_of, moved}
 use Rattle.base_roles.specs.{Hooks.{after, Tells, Stand, Ready, Stands, MayCall, Lawful}, Owing.Lists, Log.Log}
 use Rattle.base_roles.specs.{Pair.{HoldsOwed-same, pair_tells, after_first}, World.{View, Hook, Told, gives, exceeds}}
@@ -19,6 +19,13 @@ told-of_ok (exceeds over) s v h = absurd h
 pub picked : {S : Type 0} (t : Told S) (holds : S → Type 0) (v : View) → Answers t holds v (Ok tt) → (s : S) × (holds s × Answers t (λ a. s ≡ a) v (Ok tt))
 picked (gives s v2 log) holds v a = (s, (a.0, (refl, a.1)))
 picked (exceeds over) holds v a = absurd a
+
+-- what is told of a call, and whether it may be made, under another name of it
+pub told_as : {S : Type 0} (t : Tells S) (s : S) (h k : Hook) (v w : View) (holds : S → Type 0) (r : Result ⊤ HookFault) → h ≡ k → Answers (t.told s k v) holds w r → Answers (t.told s h v) holds w r
+told_as t s h k v w holds r e a = subst (λ x. Answers (t.told s x v) holds w r) (sym e) a
+
+pub may_as : {S : Type 0} (t : Tells S) (holds : S → Type 0) (h k : Hook) (v : View) → h ≡ k → MayCall holds t h v → MayCall holds t k v
+may_as t holds h k v e m = subst (λ x. MayCall holds t x v) e m
 
 -- hooks stand as before over a ground in order whose context and distribution account are the same
 pub Stand-same : {S : Type 0} (t : Tells S) (s : S) (v w : View) (l : Lists) → w.ctx ≡ v.ctx

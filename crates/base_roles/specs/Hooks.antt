@@ -1,5 +1,5 @@
 -- The conditions and the laws of hooks. They speak of plain values alone.
-use Rattle.std.specs.Prelude.{◌≡◌, ℕ, ◌^◌, ◌<◌, ◌≤◌, Bool, true, false, ◌&&◌, List, ◌++◌, if◌then◌else◌, Option, None}
+use Rattle.std.specs.Prelude.{◌≡◌, ℕ, ◌+◌, ◌^◌, ◌<◌, ◌≤◌, Bool, true, false, ◌&&◌, List, ◌++◌, if◌then◌else◌, Option, None}
 use Rattle.base_types.specs.declared.account.Account.TheVariants as account
 use Rattle.base_types.specs.declared.account.Module.TheVariants.{FeeCollector, Bonded, NotBonded, Distribution}
 use Rattle.base_roles.specs.declared.entities.Validator.{Validator}
@@ -125,3 +125,7 @@ Stands {S} holds t v l = (s : S) × (holds s × Stand t s v l)
 -- the hook may be called on some plain value that is held, for some lists
 abbrev pub MayCall : {S : Type 0} → (S → Type 0) → Tells S → Hook → View → Type 0
 MayCall {S} holds t h v = (s : S) × (holds s × ((l : Lists) × Ready t s v h l))
+
+-- the call after a validator was bonded touches at most what is told, of each plain value that is held
+abbrev pub BondsWithin : {S : Type 0} → (S → Type 0) → Tells S → Hook → ℕ → ℕ → Type 0
+BondsWithin {S} holds t h before steps = (v : Validator) → h ≡ bonded v → (s : S) → holds s → steps ≤ before + t.most_steps s

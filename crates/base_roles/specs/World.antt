@@ -5,7 +5,8 @@ use Rattle.base_types.specs.declared.account.Module.{Module}
 use Rattle.base_types.specs.declared.account.Account.{Account}
 use Rattle.base_types.specs.declared.account.Account.TheVariants as account
 use Rattle.base_coins.specs.Coins.{Money}
-use Rattle.base_roles.specs.declared.entities.Validator.{Validator}
+pub use Rattle.base_roles.specs.declared.calls.Hook.{Hook}
+pub use Rattle.base_roles.specs.declared.calls.Hook.TheVariants.{Created as created, Removed as removed, Bonded as bonded, Starting as starting, Modifying as modifying, Modified as modified, Slashing as slashing}
 use Rattle.base_roles.specs.declared.facts.Fact.{Fact}
 use Rattle.base_roles.specs.declared.params.Ctx.{Ctx}
 use Rattle.base_roles.specs.Holdings.{Holdings, moved, burned, transfer_told, burn_told}
@@ -16,16 +17,6 @@ pub record View : Type 0 where
   pub bank : Holdings
   pub ctx : Ctx
   pub facts : List Fact
-
--- one call of a hook, with its arguments
-pub data Hook : Type 0 where
-  created : Validator → Hook
-  removed : Validator → Hook
-  bonded : Validator → Hook
-  starting : Validator → List ℕ → Hook
-  modifying : Validator → List ℕ → ℕ → Hook
-  modified : Validator → List ℕ → ℕ → Hook
-  slashing : Validator → ℕ → Hook
 
 -- what is told of a hook: what the hooks then hold, the ground then and what is logged; or an excess
 pub data Told (H : Type 0) : Type 0 where

@@ -4,10 +4,11 @@
 ghost use Rattle.std.specs.Prelude.{◌≡◌, ℕ, ◌+◌, ◌≤◌};
 ghost use Rattle.base_roles.specs.Answers.{Answers};
 ghost use Rattle.base_roles.specs.Ground.{seen, CanBeUndone};
-ghost use Rattle.base_roles.specs.Hooks.{Tells, MayCall, Lawful};
+ghost use Rattle.base_roles.specs.Hooks.{Tells, MayCall, BondsWithin, Lawful};
 ghost use Rattle.base_roles.specs.World.{created, removed, bonded, starting, modifying, modified, slashing};
 
 use crate::bank::{Bank, Ground};
+use crate::calls::Hook;
 use crate::entities::Validator;
 use crate::faults::HookFault;
 use base_decimals::Dec;
@@ -39,8 +40,25 @@ pub trait StakingHooks {
 
     ghost marks: { Self → Marks };
 
+    /// Carries out one call. It is what an implementation writes, and it has the one contract of all seven; the calls
+    /// below give it their arguments.
+    fn hear<B: Bank, L: Ledger>(
+        &mut self,
+        alloc: Global,
+        g: &mut Ground<B>,
+        hook: &Hook,
+        steps: &mut Steps<L>,
+    ) -> Result<(), HookFault>
+        requires { MayCall (holds self.old) tells hook.now (seen B.holdings g.old) }
+        ensures told { (h : Held) → holds self.old h → Answers (tells.told h hook.now
+            (seen B.holdings g.old)) (holds self.new) (seen B.holdings g.new) result }
+        ensures undone { CanBeUndone B.marks g.old g.new }
+        ensures bank { B.most_steps g.new.bank ≡ B.most_steps g.old.bank }
+        ensures marks { marks self.new ≡ marks self.old }
+        ensures cost { BondsWithin (holds self.old) tells hook.now steps.old steps.new };
+
     /// After a validator was created (`AfterValidatorCreated`).
-    fn after_validator_created<B: Bank, L: Ledger>(
+    final fn after_validator_created<B: Bank, L: Ledger>(
         &mut self,
         alloc: Global,
         g: &mut Ground<B>,
@@ -52,10 +70,14 @@ pub trait StakingHooks {
             (seen B.holdings g.old)) (holds self.new) (seen B.holdings g.new) result }
         ensures undone { CanBeUndone B.marks g.old g.new }
         ensures bank { B.most_steps g.new.bank ≡ B.most_steps g.old.bank }
-        ensures marks { marks self.new ≡ marks self.old };
+        ensures marks { marks self.new ≡ marks self.old }
+    {
+        let hook = Hook::Created { validator: *v };
+        self.hear(alloc, g, &hook, steps)
+    }
 
     /// After a validator was removed (`AfterValidatorRemoved`).
-    fn after_validator_removed<B: Bank, L: Ledger>(
+    final fn after_validator_removed<B: Bank, L: Ledger>(
         &mut self,
         alloc: Global,
         g: &mut Ground<B>,
@@ -67,10 +89,14 @@ pub trait StakingHooks {
             (seen B.holdings g.old)) (holds self.new) (seen B.holdings g.new) result }
         ensures undone { CanBeUndone B.marks g.old g.new }
         ensures bank { B.most_steps g.new.bank ≡ B.most_steps g.old.bank }
-        ensures marks { marks self.new ≡ marks self.old };
+        ensures marks { marks self.new ≡ marks self.old }
+    {
+        let hook = Hook::Removed { validator: *v };
+        self.hear(alloc, g, &hook, steps)
+    }
 
     /// After a validator joined the bonded set (`AfterValidatorBonded`).
-    fn after_validator_bonded<B: Bank, L: Ledger>(
+    final fn after_validator_bonded<B: Bank, L: Ledger>(
         &mut self,
         alloc: Global,
         g: &mut Ground<B>,
@@ -83,10 +109,14 @@ pub trait StakingHooks {
         ensures undone { CanBeUndone B.marks g.old g.new }
         ensures bank { B.most_steps g.new.bank ≡ B.most_steps g.old.bank }
         ensures marks { marks self.new ≡ marks self.old }
-        ensures cost { (h : Held) → holds self.old h → steps.new ≤ steps.old + tells.most_steps h };
+        ensures cost { (h : Held) → holds self.old h → steps.new ≤ steps.old + tells.most_steps h }
+    {
+        let hook = Hook::Bonded { validator: *v };
+        self.hear(alloc, g, &hook, steps)
+    }
 
     /// Before a delegation is created (`BeforeDelegationCreated`).
-    fn before_delegation_created<B: Bank, L: Ledger>(
+    final fn before_delegation_created<B: Bank, L: Ledger>(
         &mut self,
         alloc: Global,
         g: &mut Ground<B>,
@@ -101,10 +131,17 @@ pub trait StakingHooks {
             (seen B.holdings g.new) result }
         ensures undone { CanBeUndone B.marks g.old g.new }
         ensures bank { B.most_steps g.new.bank ≡ B.most_steps g.old.bank }
-        ensures marks { marks self.new ≡ marks self.old };
+        ensures marks { marks self.new ≡ marks self.old }
+    {
+        let hook = Hook::Starting {
+            validator: *v,
+            delegator: *delegator,
+        };
+        self.hear(alloc, g, &hook, steps)
+    }
 
     /// Before a delegation's shares, which are so many, change (`BeforeDelegationSharesModified`).
-    fn before_shares_modified<B: Bank, L: Ledger>(
+    final fn before_shares_modified<B: Bank, L: Ledger>(
         &mut self,
         alloc: Global,
         g: &mut Ground<B>,
@@ -120,10 +157,18 @@ pub trait StakingHooks {
             (seen B.holdings g.new) result }
         ensures undone { CanBeUndone B.marks g.old g.new }
         ensures bank { B.most_steps g.new.bank ≡ B.most_steps g.old.bank }
-        ensures marks { marks self.new ≡ marks self.old };
+        ensures marks { marks self.new ≡ marks self.old }
+    {
+        let hook = Hook::Modifying {
+            validator: *v,
+            delegator: *delegator,
+            shares,
+        };
+        self.hear(alloc, g, &hook, steps)
+    }
 
     /// After a delegation was created or changed, and has so many shares (`AfterDelegationModified`).
-    fn after_delegation_modified<B: Bank, L: Ledger>(
+    final fn after_delegation_modified<B: Bank, L: Ledger>(
         &mut self,
         alloc: Global,
         g: &mut Ground<B>,
@@ -139,10 +184,18 @@ pub trait StakingHooks {
             (seen B.holdings g.new) result }
         ensures undone { CanBeUndone B.marks g.old g.new }
         ensures bank { B.most_steps g.new.bank ≡ B.most_steps g.old.bank }
-        ensures marks { marks self.new ≡ marks self.old };
+        ensures marks { marks self.new ≡ marks self.old }
+    {
+        let hook = Hook::Modified {
+            validator: *v,
+            delegator: *delegator,
+            shares,
+        };
+        self.hear(alloc, g, &hook, steps)
+    }
 
     /// Before a validator loses this part of its tokens (`BeforeValidatorSlashed`).
-    fn before_validator_slashed<B: Bank, L: Ledger>(
+    final fn before_validator_slashed<B: Bank, L: Ledger>(
         &mut self,
         alloc: Global,
         g: &mut Ground<B>,
@@ -157,7 +210,14 @@ pub trait StakingHooks {
             (seen B.holdings g.new) result }
         ensures undone { CanBeUndone B.marks g.old g.new }
         ensures bank { B.most_steps g.new.bank ≡ B.most_steps g.old.bank }
-        ensures marks { marks self.new ≡ marks self.old };
+        ensures marks { marks self.new ≡ marks self.old }
+    {
+        let hook = Hook::Slashing {
+            validator: *v,
+            fraction,
+        };
+        self.hear(alloc, g, &hook, steps)
+    }
 
     ghost lawful: { Lawful tells };
 }

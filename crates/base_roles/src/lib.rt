@@ -7,6 +7,7 @@
 #![tactic(auto)]
 
 pub mod bank;
+pub mod calls;
 pub mod delegation;
 pub mod entities;
 pub mod extra;
@@ -27,6 +28,7 @@ pub mod staked;
 pub mod worked;
 
 pub use bank::{Bank, Ground};
+pub use calls::Hook;
 pub use delegation::Delegation;
 pub use entities::{
     Commission, Historical, Purse, RedelegationEntry, SigningInfo, SlashEvent, StartingInfo,

@@ -4,14 +4,13 @@ ghost use Rattle.std.specs.Prelude.{◌≡◌, ℕ, [], false, replicate};
 ghost use Rattle.base_roles.specs.NoHooks.{nothing_told, nothing_lawful, nothing_listens};
 
 use crate::bank::{Bank, Ground};
-use crate::entities::Validator;
+use crate::calls::Hook;
 use crate::extra::Extra;
 use crate::faults::{HookFault, RecordFault};
 use crate::hooks::StakingHooks;
 use crate::items::Item;
 use crate::records::Records;
-use base_decimals::Dec;
-use base_types::{Addr, Steps};
+use base_types::Steps;
 use std::alloc::Global;
 use std::sync::ledger::Ledger;
 
@@ -41,77 +40,11 @@ impl StakingHooks for NoHooks {
 
     ghost marks = { λ s. s.open };
 
-    fn after_validator_created<B: Bank, L: Ledger>(
+    fn hear<B: Bank, L: Ledger>(
         &mut self,
         _alloc: Global,
         _g: &mut Ground<B>,
-        _v: &Validator,
-        _steps: &mut Steps<L>,
-    ) -> Result<(), HookFault> {
-        Ok(())
-    }
-
-    fn after_validator_removed<B: Bank, L: Ledger>(
-        &mut self,
-        _alloc: Global,
-        _g: &mut Ground<B>,
-        _v: &Validator,
-        _steps: &mut Steps<L>,
-    ) -> Result<(), HookFault> {
-        Ok(())
-    }
-
-    fn after_validator_bonded<B: Bank, L: Ledger>(
-        &mut self,
-        _alloc: Global,
-        _g: &mut Ground<B>,
-        _v: &Validator,
-        _steps: &mut Steps<L>,
-    ) -> Result<(), HookFault> {
-        Ok(())
-    }
-
-    fn before_delegation_created<B: Bank, L: Ledger>(
-        &mut self,
-        _alloc: Global,
-        _g: &mut Ground<B>,
-        _v: &Validator,
-        _who: &Addr,
-        _steps: &mut Steps<L>,
-    ) -> Result<(), HookFault> {
-        Ok(())
-    }
-
-    fn before_shares_modified<B: Bank, L: Ledger>(
-        &mut self,
-        _alloc: Global,
-        _g: &mut Ground<B>,
-        _v: &Validator,
-        _who: &Addr,
-        _shares: Dec,
-        _steps: &mut Steps<L>,
-    ) -> Result<(), HookFault> {
-        Ok(())
-    }
-
-    fn after_delegation_modified<B: Bank, L: Ledger>(
-        &mut self,
-        _alloc: Global,
-        _g: &mut Ground<B>,
-        _v: &Validator,
-        _who: &Addr,
-        _shares: Dec,
-        _steps: &mut Steps<L>,
-    ) -> Result<(), HookFault> {
-        Ok(())
-    }
-
-    fn before_validator_slashed<B: Bank, L: Ledger>(
-        &mut self,
-        _alloc: Global,
-        _g: &mut Ground<B>,
-        _v: &Validator,
-        _fraction: Dec,
+        _hook: &Hook,
         _steps: &mut Steps<L>,
     ) -> Result<(), HookFault> {
         Ok(())

@@ -3,9 +3,8 @@
 ghost use Rattle.std.specs.Prelude.{◌≡◌, ℕ, List};
 ghost use Rattle.base_roles_example.specs.Forgetting.{latest, forgetting_tells, forgetting_lawful};
 
-use base_decimals::Dec;
-use base_roles::{Bank, Fact, Ground, HookFault, StakingHooks, Validator};
-use base_types::{Addr, Steps};
+use base_roles::{Bank, Fact, Ground, Hook, HookFault, StakingHooks};
+use base_types::Steps;
 use std::alloc::Global;
 use std::sync::ledger::Ledger;
 
@@ -27,87 +26,36 @@ impl StakingHooks for Forgetting {
 
     ghost marks = { λ _. tt };
 
-    fn after_validator_created<B: Bank, L: Ledger>(
-        &mut self,
-        _alloc: Global,
-        _g: &mut Ground<B>,
-        _v: &Validator,
-        _steps: &mut Steps<L>,
-    ) -> Result<(), HookFault> {
-        Ok(())
-    }
-
-    fn after_validator_removed<B: Bank, L: Ledger>(
-        &mut self,
-        _alloc: Global,
-        _g: &mut Ground<B>,
-        _v: &Validator,
-        _steps: &mut Steps<L>,
-    ) -> Result<(), HookFault> {
-        Ok(())
-    }
-
-    fn after_validator_bonded<B: Bank, L: Ledger>(
+    fn hear<B: Bank, L: Ledger>(
         &mut self,
         _alloc: Global,
         g: &mut Ground<B>,
-        _v: &Validator,
+        hook: &Hook,
         _steps: &mut Steps<L>,
     ) -> Result<(), HookFault> {
-        self.latest = g.ctx.height;
-        Ok(())
-    }
-
-    fn before_delegation_created<B: Bank, L: Ledger>(
-        &mut self,
-        _alloc: Global,
-        g: &mut Ground<B>,
-        v: &Validator,
-        delegator: &Addr,
-        _steps: &mut Steps<L>,
-    ) -> Result<(), HookFault> {
-        g.facts.push(Fact::Started {
-            delegator: *delegator,
-            validator: v.operator,
-            period: self.latest,
-            stake: v.shares,
-        })?;
-        Ok(())
-    }
-
-    fn before_shares_modified<B: Bank, L: Ledger>(
-        &mut self,
-        _alloc: Global,
-        _g: &mut Ground<B>,
-        _v: &Validator,
-        _who: &Addr,
-        _shares: Dec,
-        _steps: &mut Steps<L>,
-    ) -> Result<(), HookFault> {
-        Ok(())
-    }
-
-    fn after_delegation_modified<B: Bank, L: Ledger>(
-        &mut self,
-        _alloc: Global,
-        _g: &mut Ground<B>,
-        _v: &Validator,
-        _who: &Addr,
-        _shares: Dec,
-        _steps: &mut Steps<L>,
-    ) -> Result<(), HookFault> {
-        Ok(())
-    }
-
-    fn before_validator_slashed<B: Bank, L: Ledger>(
-        &mut self,
-        _alloc: Global,
-        _g: &mut Ground<B>,
-        _v: &Validator,
-        _fraction: Dec,
-        _steps: &mut Steps<L>,
-    ) -> Result<(), HookFault> {
-        Ok(())
+        match hook {
+            Hook::Bonded { .. } => {
+                self.latest = g.ctx.height;
+                Ok(())
+            }
+            Hook::Starting {
+                validator,
+                delegator,
+            } => {
+                g.facts.push(Fact::Started {
+                    delegator: *delegator,
+                    validator: validator.operator,
+                    period: self.latest,
+                    stake: validator.shares,
+                })?;
+                Ok(())
+            }
+            Hook::Created { .. }
+            | Hook::Removed { .. }
+            | Hook::Modifying { .. }
+            | Hook::Modified { .. }
+            | Hook::Slashing { .. } => Ok(()),
+        }
     }
 
     ghost lawful = { forgetting_lawful };

@@ -21,7 +21,7 @@ pub record IsTaken {E : Type 0} (old new : Modules E) : Type 0 where
   pub bank : new.ground.bank ≡ old.ground.bank
   pub ctx : new.ground.ctx ≡ old.ground.ctx
   pub stakes : new.stakes ≡ old.stakes
-  pub shared : new.hooks.first.hooks ≡ old.hooks.first.hooks
+  pub shared : new.hooks.first.first ≡ old.hooks.first.first
   pub signings : new.hooks.second ≡ old.hooks.second
 
 pub taken_kept : {E : Type 0} (old new : Modules E) → IsTaken old new → kept_of new ≡ without_told (kept_of old)
@@ -36,7 +36,7 @@ pub taken_behind : {E : Type 0} (old new : Modules E) → IsTaken old new → be
 taken_behind old new t = λ i. behind_of (record {
   ground = record { bank = t.bank i; ctx = old.ground.ctx; facts = old.ground.facts };
   stakes = t.stakes i;
-  hooks = record { first = record { hooks = t.shared i; listener = old.hooks.first.listener }; second = t.signings i };
+  hooks = record { first = record { first = t.shared i; second = record { listener = old.hooks.first.second.listener } }; second = t.signings i };
 })
 
 pub taken_stands : {E : Type 0} (old new : Modules E) (p : State) → IsTaken old new → StandsWhole (kept_of old) p → StandsWhole (kept_of new) (without_facts p)

@@ -71,14 +71,14 @@ module _ {E : Type 0} (old new : Modules E) (p : State) (ctx : new.ground.ctx �
   numbered i h = subst (λ n. KeepsSignings n new.hooks.second.kept i) (ap (λ (c : Ctx). c.params.signed_blocks_window) (sym ctx)) h
 
   pub allocated_leads : (votes : List Vote) (b : AreBegun votes (kept_of old) p) → AreCast votes p → stakes_kept new.stakes ≡ stakes_kept old.stakes → new.hooks.second.kept ≡ old.hooks.second.kept
-      → (answer : Result ⊤ HookFault) → Answers (told_of (fees_allocated old.stakes.staking.staked votes (shared_in p) (ground_of old))) (KeepsShared new.hooks.first.hooks.kept) (ground_of new) answer
+      → (answer : Result ⊤ HookFault) → Answers (told_of (fees_allocated old.stakes.staking.staked votes (shared_in p) (ground_of old))) (KeepsShared new.hooks.first.first.kept) (ground_of new) answer
       → Leads (AreBegun votes) (allocation_step votes p) (kept_of new) answer
   allocated_leads votes b known stakes signings answer h =
       by (fees_allocated p.mine.staked votes (shared_in p) p.view) answer
-      (subst (λ r. Answers (told_of r) (KeepsShared new.hooks.first.hooks.kept) (ground_of new) answer) (λ i. fees_allocated (sym b.keeps.stakes i).staked votes (shared_in p) (sym b.keeps.view i)) h)
+      (subst (λ r. Answers (told_of r) (KeepsShared new.hooks.first.first.kept) (ground_of new) answer) (λ i. fees_allocated (sym b.keeps.stakes i).staked votes (shared_in p) (sym b.keeps.view i)) h)
       (allocated_next votes p b.sound known b.counts)
     where
-      by : (r : Result (Shared × View × Log) Over) (a : Result ⊤ HookFault) → Answers (told_of r) (KeepsShared new.hooks.first.hooks.kept) (ground_of new) a → IfOk (r >>= λ x. Ok (with_shared x.0 x.1 x.2 p)) (IsBegunNext votes p)
+      by : (r : Result (Shared × View × Log) Over) (a : Result ⊤ HookFault) → Answers (told_of r) (KeepsShared new.hooks.first.first.kept) (ground_of new) a → IfOk (r >>= λ x. Ok (with_shared x.0 x.1 x.2 p)) (IsBegunNext votes p)
           → Leads (AreBegun votes) (r >>= λ x. Ok (with_shared x.0 x.1 x.2 p)) (kept_of new) a
       by (Ok x) (Ok a) h n =
           let due : State = with_shared x.0 x.1 x.2 p in
@@ -116,16 +116,16 @@ module _ {E : Type 0} (old new : Modules E) (p : State) (ctx : new.ground.ctx �
 
   pub vote_leads : (t : Vote) (ts : List Vote) → AreBegun (t ∷ ts) (kept_of old) p → (answer : Result ⊤ HookFault)
       → VoteAnswers (voted (core_slashes distribution_told plain_slash) t (window_in p) (record { mine = stakes_kept old.stakes; hooks = shared_in p; view = ground_of old; log = p.log }))
-      (KeepsSignings old.ground.ctx.params.signed_blocks_window new.hooks.second.kept) (stakes_kept new.stakes) (KeepsShared new.hooks.first.hooks.kept) (ground_of new) answer
+      (KeepsSignings old.ground.ctx.params.signed_blocks_window new.hooks.second.kept) (stakes_kept new.stakes) (KeepsShared new.hooks.first.first.kept) (ground_of new) answer
       → Leads (AreBegun ts) (vote_step t p) (kept_of new) answer
   vote_leads t ts b answer h =
       by (voted (core_slashes distribution_told plain_slash) t (window_in p) (beside_window p)) answer
-      (subst (λ r. VoteAnswers r (KeepsSignings old.ground.ctx.params.signed_blocks_window new.hooks.second.kept) (stakes_kept new.stakes) (KeepsShared new.hooks.first.hooks.kept) (ground_of new) answer)
+      (subst (λ r. VoteAnswers r (KeepsSignings old.ground.ctx.params.signed_blocks_window new.hooks.second.kept) (stakes_kept new.stakes) (KeepsShared new.hooks.first.first.kept) (ground_of new) answer)
       (λ i. voted (core_slashes distribution_told plain_slash) t (window_in p) (record { mine = sym b.keeps.stakes i; hooks = shared_in p; view = sym b.keeps.view i; log = p.log })) h)
       (vote_next t ts b)
     where
       by : (r : Result (⊤ × Window × World Stakes Shared) Over) (a : Result ⊤ HookFault)
-          → VoteAnswers r (KeepsSignings old.ground.ctx.params.signed_blocks_window new.hooks.second.kept) (stakes_kept new.stakes) (KeepsShared new.hooks.first.hooks.kept) (ground_of new) a
+          → VoteAnswers r (KeepsSignings old.ground.ctx.params.signed_blocks_window new.hooks.second.kept) (stakes_kept new.stakes) (KeepsShared new.hooks.first.first.kept) (ground_of new) a
           → IfOk (r >>= λ x. Ok (with_window x.1 x.2)) (IsBegunNext ts p) → Leads (AreBegun ts) (r >>= λ x. Ok (with_window x.1 x.2)) (kept_of new) a
       by (Ok x) (Ok a) h n =
           goes_on ts (kept_of new) p (with_window x.1 x.2) n (record { stakes = sym h.1; shared = h.2; signings = numbered x.1 h.0; view = sym h.3 })

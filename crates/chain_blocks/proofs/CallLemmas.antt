@@ -34,7 +34,7 @@ abbrev pub core_marks : StakesSeen → book.Behind × entries.Behind (List ℕ �
 core_marks s = (book.behind s.staking, entries.behind s.unbondings, entries.behind s.redelegations)
 
 -- a vote, or evidence
-pub punishing_on : {E : Type 0} (old new : Modules E) → CanBeUndone bank.behind old.ground new.ground → distr.behind new.hooks.first.hooks ≡ distr.behind old.hooks.first.hooks → core_marks new.stakes ≡ core_marks old.stakes
+pub punishing_on : {E : Type 0} (old new : Modules E) → CanBeUndone bank.behind old.ground new.ground → distr.behind new.hooks.first.first ≡ distr.behind old.hooks.first.first → core_marks new.stakes ≡ core_marks old.stakes
     → window.behind new.hooks.second ≡ window.behind old.hooks.second → GoOn old new
 punishing_on old new ground shared stakes signings = all_on old new ground (λ i. (stakes i).0) (λ i. (stakes i).1) (λ i. (stakes i).2) (λ i. (shared i, signings i))
 
@@ -75,7 +75,7 @@ cast_votes votes p s c = record {
 
 module _ {E : Type 0} (m : Modules E) (p : State) (k : Keeps (kept_of m) p) (s : IsSound p) where
   -- fees may be allocated among votes
-  pub votes_kept : (votes : List Vote) → AreCast votes p → AreVotes m.stakes.staking.staked m.hooks.first.hooks.kept.purses votes
+  pub votes_kept : (votes : List Vote) → AreCast votes p → AreVotes m.stakes.staking.staked m.hooks.first.first.kept.purses votes
   votes_kept votes c =
       subst (λ (u : Purses). AreVotes m.stakes.staking.staked u votes) (sym k.shared.purses)
       (subst (λ (c : Stakes). AreVotes c.staked (shared_in p).purses votes) k.stakes (cast_votes votes p s c))
@@ -91,7 +91,7 @@ module _ {E : Type 0} (m : Modules E) (p : State) (k : Keeps (kept_of m) p) (s :
       (subst (λ (v : View). HoldsStake v (bonded_tokens p.mine.staked) (other_tokens p.mine.staked + entry_balances p.mine.unbondings)) k.view (all_held p s))
 
   -- a vote may be counted, and evidence be handled
-  pub punishing_scene : IsScene distribution_tells (KeepsShared m.hooks.first.hooks.kept) (ground_of m) (IsSoundCore unbonding.AreSoundLists redelegate.AreSoundLists (stakes_kept m.stakes)) m.stakes.staking.staked
+  pub punishing_scene : IsScene distribution_tells (KeepsShared m.hooks.first.first.kept) (ground_of m) (IsSoundCore unbonding.AreSoundLists redelegate.AreSoundLists (stakes_kept m.stakes)) m.stakes.staking.staked
       (entry_balances m.stakes.unbondings.lists)
   punishing_scene = record { sound = core_kept; stand = stand_shared m p k s; accounts = accounts_kept }
 
@@ -117,6 +117,6 @@ module _ {E : Type 0} (m : Modules E) (p : State) (k : Keeps (kept_of m) p) (s :
 
 -- the same with a listener
 pub punishing_heard : {E P : Type 0} (heard : E → P) (hears : P → Hook → View → P) (m : Modules E) (p : State) → Keeps (kept_of m) p → IsSound p
-    → IsScene (heard_shared hears) (λ d. KeepsShared m.hooks.first.hooks.kept d.0 × (heard m.hooks.first.listener ≡ d.1)) (ground_of m) (IsSoundCore unbonding.AreSoundLists redelegate.AreSoundLists (stakes_kept m.stakes)) m.stakes.staking.staked
+    → IsScene (heard_shared hears) (λ d. KeepsShared m.hooks.first.first.kept d.0 × (heard m.hooks.first.second.listener ≡ d.1)) (ground_of m) (IsSoundCore unbonding.AreSoundLists redelegate.AreSoundLists (stakes_kept m.stakes)) m.stakes.staking.staked
     (entry_balances m.stakes.unbondings.lists)
 punishing_heard heard hears m p k s = let scene = punishing_scene m p k s in record { sound = scene.sound; stand = shared_stands hears heard m.hooks (ground_of m) _ scene.stand; accounts = scene.accounts }

@@ -158,7 +158,7 @@ module _ {E : Type 0} (old new : Modules E) (p : State) (k : Keeps (kept_of old)
 
 -- ---- entries that are mature
 
-module _ {E : Type 0} (old new : Modules E) (p : State) (k : Keeps (kept_of old) p) (ctx : new.ground.ctx ≡ old.ground.ctx) (shared : new.hooks.first.hooks.kept ≡ old.hooks.first.hooks.kept)
+module _ {E : Type 0} (old new : Modules E) (p : State) (k : Keeps (kept_of old) p) (ctx : new.ground.ctx ≡ old.ground.ctx) (shared : new.hooks.first.first.kept ≡ old.hooks.first.first.kept)
     (signings : new.hooks.second.kept ≡ old.hooks.second.kept) (staked : new.stakes.staking.staked ≡ old.stakes.staking.staked) where
   same_signings : KeepsSignings new.ground.ctx.params.signed_blocks_window new.hooks.second.kept (window_in p)
   same_signings =

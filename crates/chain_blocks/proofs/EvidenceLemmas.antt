@@ -87,18 +87,18 @@ done_with (Err fault) = Err fault
 module _ {E : Type 0} (old new : Modules E) (p : State) (b : AreBegun [] (kept_of old) p) (ctx : new.ground.ctx ≡ old.ground.ctx) where
   pub evidence_leads : (e : Evidence) (answer : Result Bool HookFault)
       → Handles (equivocation_handled (core_slashes distribution_told plain_slash) kept_bans e old.hooks.second.kept (record { mine = stakes_kept old.stakes; hooks = shared_in p; view = ground_of old; log = p.log }))
-      new.hooks.second.kept (stakes_kept new.stakes) (KeepsShared new.hooks.first.hooks.kept) (ground_of new) answer
+      new.hooks.second.kept (stakes_kept new.stakes) (KeepsShared new.hooks.first.first.kept) (ground_of new) answer
       → Leads (AreBegun []) (evidence_step e p) (kept_of new) (done_with answer)
   evidence_leads e answer h =
       by (equivocation_handled (core_slashes distribution_told plain_slash) window_bans e (window_in p) (beside_window p)) answer
       (handled_plain (core_slashes distribution_told plain_slash) old.ground.ctx.params.signed_blocks_window old.hooks.second.kept (window_in p) b.keeps.signings
-      new.hooks.second.kept (stakes_kept new.stakes) (KeepsShared new.hooks.first.hooks.kept) (ground_of new) e (beside_window p) answer
-      (subst (λ r. Handles r new.hooks.second.kept (stakes_kept new.stakes) (KeepsShared new.hooks.first.hooks.kept) (ground_of new) answer)
+      new.hooks.second.kept (stakes_kept new.stakes) (KeepsShared new.hooks.first.first.kept) (ground_of new) e (beside_window p) answer
+      (subst (λ r. Handles r new.hooks.second.kept (stakes_kept new.stakes) (KeepsShared new.hooks.first.first.kept) (ground_of new) answer)
       (λ j. equivocation_handled (core_slashes distribution_told plain_slash) kept_bans e old.hooks.second.kept (record { mine = sym b.keeps.stakes j; hooks = shared_in p; view = sym b.keeps.view j; log = p.log })) h))
       (evidence_next old new p ctx e b.sound)
     where
       by : (r : Result (Bool × Window × World Stakes Shared) Over) (a : Result Bool HookFault)
-          → AsRuled r a (λ due done. KeepsSignings old.ground.ctx.params.signed_blocks_window new.hooks.second.kept due.1 × (stakes_kept new.stakes ≡ due.2.mine) × KeepsShared new.hooks.first.hooks.kept due.2.hooks × (ground_of new ≡ due.2.view)) WantsMemory ExceedsAs
+          → AsRuled r a (λ due done. KeepsSignings old.ground.ctx.params.signed_blocks_window new.hooks.second.kept due.1 × (stakes_kept new.stakes ≡ due.2.mine) × KeepsShared new.hooks.first.first.kept due.2.hooks × (ground_of new ≡ due.2.view)) WantsMemory ExceedsAs
           → IfOk (r >>= λ x. Ok (with_window x.1 x.2)) (IsBegunNext [] p) → Leads (AreBegun []) (r >>= λ x. Ok (with_window x.1 x.2)) (kept_of new) (done_with a)
       by (Ok x) (Ok done) h n =
           goes_on [] (kept_of new) p (with_window x.1 x.2) n

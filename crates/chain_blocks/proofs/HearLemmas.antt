@@ -74,18 +74,18 @@ module _ {E P : Type 0} (heard : E → P) (hears : P → Hook → View → P) (o
 
 -- what distribution holds, with what the listener heard
 abbrev pub shared_hold : {E P : Type 0} → (E → P) → Modules E → Shared × P → Type 0
-shared_hold heard m d = KeepsShared m.hooks.first.hooks.kept d.0 × (heard m.hooks.first.listener ≡ d.1)
+shared_hold heard m d = KeepsShared m.hooks.first.first.kept d.0 × (heard m.hooks.first.second.listener ≡ d.1)
 
 module _ {E P : Type 0} (heard : E → P) (hears : P → Hook → View → P) (last : Modules E) where
   pub vote_apart : (t : Vote) (i : Window) (stands : Window → Type 0) (x : World Stakes (Shared × P)) (answer : Result ⊤ HookFault)
       → VoteAnswers (voted (core_slashes (heard_shared hears).told plain_slash) t i x) stands (stakes_kept last.stakes) (shared_hold heard last) (ground_of last) answer
-      → VoteAnswers (voted (core_slashes distribution_told plain_slash) t i (record { mine = x.mine; hooks = x.hooks.0; view = x.view; log = x.log })) stands (stakes_kept last.stakes) (KeepsShared last.hooks.first.hooks.kept) (ground_of last) answer
+      → VoteAnswers (voted (core_slashes distribution_told plain_slash) t i (record { mine = x.mine; hooks = x.hooks.0; view = x.view; log = x.log })) stands (stakes_kept last.stakes) (KeepsShared last.hooks.first.first.kept) (ground_of last) answer
   vote_apart t i stands x answer h =
-      subst (λ r. VoteAnswers r stands (stakes_kept last.stakes) (KeepsShared last.hooks.first.hooks.kept) (ground_of last) answer)
+      subst (λ r. VoteAnswers r stands (stakes_kept last.stakes) (KeepsShared last.hooks.first.first.kept) (ground_of last) answer)
       (sym (voted_carried (shared_of hears) [] (heard_shared hears).told distribution_told (shared_apart hears) t i x)) (by (voted (core_slashes (heard_shared hears).told plain_slash) t i x) answer h)
     where
       by : (r : Result (⊤ × Window × World Stakes (Shared × P)) Over) (a : Result ⊤ HookFault) → VoteAnswers r stands (stakes_kept last.stakes) (shared_hold heard last) (ground_of last) a
-          → VoteAnswers (carried_ok (core_with (shared_of hears) []) r) stands (stakes_kept last.stakes) (KeepsShared last.hooks.first.hooks.kept) (ground_of last) a
+          → VoteAnswers (carried_ok (core_with (shared_of hears) []) r) stands (stakes_kept last.stakes) (KeepsShared last.hooks.first.first.kept) (ground_of last) a
       by (Ok due) (Ok a) k = (k.0, k.1, k.2.0, k.3)
       by (Ok due) (Err fault) k = k
       by (Err over) (Ok a) k = k
@@ -93,13 +93,13 @@ module _ {E P : Type 0} (heard : E → P) (hears : P → Hook → View → P) (l
 
   pub evidence_apart : (e : Evidence) (kept kept2 : Kept) (x : World Stakes (Shared × P)) (answer : Result Bool HookFault)
       → Handles (equivocation_handled (core_slashes (heard_shared hears).told plain_slash) kept_bans e kept x) kept2 (stakes_kept last.stakes) (shared_hold heard last) (ground_of last) answer
-      → Handles (equivocation_handled (core_slashes distribution_told plain_slash) kept_bans e kept (record { mine = x.mine; hooks = x.hooks.0; view = x.view; log = x.log })) kept2 (stakes_kept last.stakes) (KeepsShared last.hooks.first.hooks.kept) (ground_of last) answer
+      → Handles (equivocation_handled (core_slashes distribution_told plain_slash) kept_bans e kept (record { mine = x.mine; hooks = x.hooks.0; view = x.view; log = x.log })) kept2 (stakes_kept last.stakes) (KeepsShared last.hooks.first.first.kept) (ground_of last) answer
   evidence_apart e kept kept2 x answer h =
-      subst (λ r. Handles r kept2 (stakes_kept last.stakes) (KeepsShared last.hooks.first.hooks.kept) (ground_of last) answer)
+      subst (λ r. Handles r kept2 (stakes_kept last.stakes) (KeepsShared last.hooks.first.first.kept) (ground_of last) answer)
       (sym (equivocation_carried (shared_of hears) [] (heard_shared hears).told distribution_told (shared_apart hears) kept_bans e kept x)) (by (equivocation_handled (core_slashes (heard_shared hears).told plain_slash) kept_bans e kept x) answer h)
     where
       by : (r : Result (Bool × Kept × World Stakes (Shared × P)) Over) (a : Result Bool HookFault) → Handles r kept2 (stakes_kept last.stakes) (shared_hold heard last) (ground_of last) a
-          → Handles (carried_ok (core_with (shared_of hears) []) r) kept2 (stakes_kept last.stakes) (KeepsShared last.hooks.first.hooks.kept) (ground_of last) a
+          → Handles (carried_ok (core_with (shared_of hears) []) r) kept2 (stakes_kept last.stakes) (KeepsShared last.hooks.first.first.kept) (ground_of last) a
       by (Ok due) (Ok a) k = (k.0, k.1, k.2, k.3.0, k.4)
       by (Ok due) (Err fault) k = k
       by (Err over) (Ok a) k = k

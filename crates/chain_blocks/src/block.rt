@@ -130,7 +130,7 @@ fn told<E: Extra>(alloc: Global, modules: &mut Modules<E>) -> Facts
     ensures bank { modules.new.ground.bank ≡ modules.old.ground.bank }
     ensures ctx { modules.new.ground.ctx ≡ modules.old.ground.ctx }
     ensures stakes { modules.new.stakes ≡ modules.old.stakes }
-    ensures shared { modules.new.hooks.first.hooks ≡ modules.old.hooks.first.hooks }
+    ensures shared { modules.new.hooks.first.first ≡ modules.old.hooks.first.first }
     ensures signings { modules.new.hooks.second ≡ modules.old.hooks.second }
     ensures heard { E.heard (listener_of modules.new) ≡ E.parted (E.heard (listener_of modules.old))
         (length modules.old.ground.facts) }
@@ -138,7 +138,7 @@ fn told<E: Extra>(alloc: Global, modules: &mut Modules<E>) -> Facts
         ≡ E.Records.marks (listener_of modules.old) }
 {
     let facts = mem::replace(&mut modules.ground.facts, Facts::new(alloc));
-    modules.hooks.first.listener.after_part(facts.len());
+    modules.hooks.first.second.listener.after_part(facts.len());
     facts
 }
 
@@ -149,7 +149,7 @@ fn told_last<E: Extra>(alloc: Global, modules: &mut Modules<E>) -> Facts
     ensures bank { modules.new.ground.bank ≡ modules.old.ground.bank }
     ensures ctx { modules.new.ground.ctx ≡ modules.old.ground.ctx }
     ensures stakes { modules.new.stakes ≡ modules.old.stakes }
-    ensures shared { modules.new.hooks.first.hooks ≡ modules.old.hooks.first.hooks }
+    ensures shared { modules.new.hooks.first.first ≡ modules.old.hooks.first.first }
     ensures signings { modules.new.hooks.second ≡ modules.old.hooks.second }
     ensures heard { E.heard (listener_of modules.new)
         ≡ E.ended (E.heard (listener_of modules.old)) }
@@ -157,6 +157,6 @@ fn told_last<E: Extra>(alloc: Global, modules: &mut Modules<E>) -> Facts
         ≡ E.Records.marks (listener_of modules.old) }
 {
     let facts = mem::replace(&mut modules.ground.facts, Facts::new(alloc));
-    modules.hooks.first.listener.after_block();
+    modules.hooks.first.second.listener.after_block();
     facts
 }

@@ -104,7 +104,7 @@ module _ {P : Type 0} (hears : P → Hook → View → P) where
     heard_stands l s =
         let held = s.0 in
         let stand : Stand hooks_tell held v l = s.1.1 in (
-          ((held.0, heard h.first.listener), held.1),
+          ((held.0, heard h.first.second.listener), held.1),
           (
             ((s.1.0.0, refl), s.1.0.1),
             record {
@@ -134,10 +134,10 @@ module _ {P : Type 0} (hears : P → Hook → View → P) where
         )
 
     -- so does distribution
-    pub shared_stands : (l : Lists) → Stands (KeepsShared h.first.hooks.kept) distribution_tells v l → Stands (λ d. KeepsShared h.first.hooks.kept d.0 × (heard h.first.listener ≡ d.1)) (heard_shared hears) v l
+    pub shared_stands : (l : Lists) → Stands (KeepsShared h.first.first.kept) distribution_tells v l → Stands (λ d. KeepsShared h.first.first.kept d.0 × (heard h.first.second.listener ≡ d.1)) (heard_shared hears) v l
     shared_stands l s =
         let stand : Stand distribution_tells s.0 v l = s.1.1 in (
-          (s.0, heard h.first.listener),
+          (s.0, heard h.first.second.listener),
           (
             (s.1.0, refl),
             record {
@@ -203,20 +203,20 @@ module _ {P : Type 0} (hears : P → Hook → View → P) where
 
     -- and the listener holds what was heard
     pub answers_heard : {A : Type 0} (window : ℕ) (k : Log) (c : Stakes) (r : Result (A × World Staked (Overheard P)) Refusal) (answer : Result A MessageFault) → AnswersAs (carried_ok (carried_by (heard_as window) []) r) s (heard_hold heard h) v answer
-        → HeardAs (carried_ok (carried_by (λ (x : Overheard P). x) k) r >>= λ d. Ok (with_staked c d.1)) answer (heard h.first.listener)
+        → HeardAs (carried_ok (carried_by (λ (x : Overheard P). x) k) r >>= λ d. Ok (with_staked c d.1)) answer (heard h.first.second.listener)
     answers_heard window k c (Ok due) (Ok a) e = e.2.0.1
     answers_heard window k c (Ok due) (Err fault) e = tt
     answers_heard window k c (Err why) answer e = tt
 
     pub both_heard : {A U : Type 0} (window : ℕ) (k : Log) (c : U → Stakes) (u : U) (r : Result (A × U × World Staked (Overheard P)) Refusal) (answer : Result A MessageFault)
         → AnswersBoth (carried_ok (carried_with (heard_as window) []) r) u s (heard_hold heard h) v answer
-        → HeardAs (carried_ok (carried_with (λ (x : Overheard P). x) k) r >>= λ d. Ok (with_staked (c d.1) d.2)) answer (heard h.first.listener)
+        → HeardAs (carried_ok (carried_with (λ (x : Overheard P). x) k) r >>= λ d. Ok (with_staked (c d.1) d.2)) answer (heard h.first.second.listener)
     both_heard window k c u (Ok due) (Ok a) e = e.3.0.1
     both_heard window k c u (Ok due) (Err fault) e = tt
     both_heard window k c u (Err why) answer e = tt
 
     pub leaves_heard : (window : ℕ) (k : Log) (c : Stakes) (r : Result (World Staked (Overheard P)) Over) (answer : Result ⊤ HookFault) → Leaves (carried_ok (carried (heard_as window) []) r) s (heard_hold heard h) v answer
-        → HeardAs (carried_ok (carried (λ (x : Overheard P). x) k) r >>= λ d. Ok (with_staked c d)) answer (heard h.first.listener)
+        → HeardAs (carried_ok (carried (λ (x : Overheard P). x) k) r >>= λ d. Ok (with_staked c d)) answer (heard h.first.second.listener)
     leaves_heard window k c (Ok due) (Ok a) e = e.1.0.1
     leaves_heard window k c (Ok due) (Err fault) e = tt
     leaves_heard window k c (Err over) answer e = tt

@@ -3,8 +3,8 @@ pub mod ErasingLemmas
 pub mod HeardLemmas
 pub mod HookLemmas
 pub mod ItemLemmas
+pub mod ListeningLemmas
 pub mod MarkLemmas
-pub mod OverheardLemmas
 pub mod SceneLemmas
 pub mod SlashCarryLemmas
 pub mod StandLemmas

@@ -17,7 +17,7 @@ restored old new e =
     let s = same_from_push new.stakes.staking.marks old.stakes.staking.marks new.stakes.staking.staked old.stakes.staking.staked (ap (λ (k : Marks). k.stakes.staked) e) in
     let u = same_from_push new.stakes.unbondings.marks old.stakes.unbondings.marks new.stakes.unbondings.lists old.stakes.unbondings.lists (ap (λ (k : Marks). k.stakes.unbondings) e) in
     let r = same_from_push new.stakes.redelegations.marks old.stakes.redelegations.marks new.stakes.redelegations.lists old.stakes.redelegations.lists (ap (λ (k : Marks). k.stakes.redelegations) e) in
-    let d = same_from_push new.hooks.first.hooks.marks old.hooks.first.hooks.marks new.hooks.first.hooks.kept old.hooks.first.hooks.kept (ap (λ (k : Marks). k.hooks.shared) e) in
+    let d = same_from_push new.hooks.first.first.marks old.hooks.first.first.marks new.hooks.first.first.kept old.hooks.first.first.kept (ap (λ (k : Marks). k.hooks.shared) e) in
     let w = same_from_push new.hooks.second.marks old.hooks.second.marks new.hooks.second.kept old.hooks.second.kept (ap (λ (k : Marks). k.hooks.signings) e) in
     record {
       same_marks = λ i. record {
@@ -40,7 +40,7 @@ closed_again old between last e c =
     let s = same_from_push last.stakes.staked old.stakes.staking.marks c.stakes.staked.0 old.stakes.staking.staked (c.stakes.staked.1 ∙ ap (λ (k : Marks). k.stakes.staked) e) in
     let u = same_from_push last.stakes.unbondings old.stakes.unbondings.marks c.stakes.unbondings.0 old.stakes.unbondings.lists (c.stakes.unbondings.1 ∙ ap (λ (k : Marks). k.stakes.unbondings) e) in
     let r = same_from_push last.stakes.redelegations old.stakes.redelegations.marks c.stakes.redelegations.0 old.stakes.redelegations.lists (c.stakes.redelegations.1 ∙ ap (λ (k : Marks). k.stakes.redelegations) e) in
-    let d = same_from_push last.hooks.shared old.hooks.first.hooks.marks c.shared.0 old.hooks.first.hooks.kept (c.shared.1 ∙ ap (λ (k : Marks). k.hooks.shared) e) in
+    let d = same_from_push last.hooks.shared old.hooks.first.first.marks c.shared.0 old.hooks.first.first.kept (c.shared.1 ∙ ap (λ (k : Marks). k.hooks.shared) e) in
     let w = same_from_push last.hooks.signings old.hooks.second.marks c.signings.0 old.hooks.second.kept (c.signings.1 ∙ ap (λ (k : Marks). k.hooks.signings) e) in
     λ i. record {
       bank = b.0 i;
@@ -64,7 +64,7 @@ open_again old between e = record {
   staked = one_more_some old.stakes.staking.marks between.stakes.staked old.stakes.staking.staked (ap (λ (k : Marks). k.stakes.staked) e);
   unbondings = one_more_some old.stakes.unbondings.marks between.stakes.unbondings old.stakes.unbondings.lists (ap (λ (k : Marks). k.stakes.unbondings) e);
   redelegations = one_more_some old.stakes.redelegations.marks between.stakes.redelegations old.stakes.redelegations.lists (ap (λ (k : Marks). k.stakes.redelegations) e);
-  shared = one_more_some old.hooks.first.hooks.marks between.hooks.shared old.hooks.first.hooks.kept (ap (λ (k : Marks). k.hooks.shared) e);
+  shared = one_more_some old.hooks.first.first.marks between.hooks.shared old.hooks.first.first.kept (ap (λ (k : Marks). k.hooks.shared) e);
   signings = one_more_some old.hooks.second.marks between.hooks.signings old.hooks.second.kept (ap (λ (k : Marks). k.hooks.signings) e);
 }
 

@@ -131,7 +131,7 @@ module _ {E : Type 0} (m : Modules E) (p : State) (k : Keeps (kept_of m) p) (s :
   )
 
   -- and of distribution alone, for votes and evidence
-  pub stand_shared : Stands (KeepsShared m.hooks.first.hooks.kept) distribution_tells (ground_of m) (lists_of m.stakes.staking.staked)
+  pub stand_shared : Stands (KeepsShared m.hooks.first.first.kept) distribution_tells (ground_of m) (lists_of m.stakes.staking.staked)
   stand_shared = (p.hooks.0, (k.shared, over_kept (λ v c. Stand distribution_tells p.hooks.0 v (lists_of c)) (distribution_stands p s)))
 
   pub hooked_kept : IsHooked hooks_tell (hooks_hold m.hooks) (ground_of m) m.stakes.staking.staked

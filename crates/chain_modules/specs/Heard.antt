@@ -24,7 +24,7 @@ heard_tell hears = pair_tells (heard_shared hears) signings_told
 module _ {E P : Type 0} (heard : E → P) where
   -- what the hooks hold, and what was heard
   abbrev pub heard_hold : HooksSeen E → (Shared × P) × Signings → Type 0
-  heard_hold h held = (KeepsShared h.first.hooks.kept held.0.0 × (heard h.first.listener ≡ held.0.1)) × HoldsSignings h.second.kept held.1
+  heard_hold h held = (KeepsShared h.first.first.kept held.0.0 × (heard h.first.second.listener ≡ held.0.1)) × HoldsSignings h.second.kept held.1
 
   -- What the modules keep stands so for the state, and the listener holds what was heard with it.
   abbrev pub Hears : (KeptState → State → Type 0) → Modules E → Hearing P → Type 0

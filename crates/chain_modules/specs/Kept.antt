@@ -4,7 +4,7 @@ use Rattle.base_roles.specs.declared.bank.Ground.{Ground}
 use Rattle.base_roles.specs.declared.entities.RedelegationEntry.{RedelegationEntry}
 use Rattle.base_roles.specs.declared.entities.UnbondingEntry.{UnbondingEntry}
 use Rattle.base_roles.specs.declared.facts.Fact.{Fact}
-use Rattle.chain_modules.specs.declared.overheard.Overheard as listening
+use Rattle.chain_modules.specs.declared.listening.Listening as listening
 use Rattle.base_roles.specs.declared.pair.HookPair as pair
 use Rattle.base_roles.specs.declared.params.Ctx.{Ctx}
 use Rattle.base_roles.specs.Ground.{seen}
@@ -36,7 +36,7 @@ StakesSeen = staking.Core (entries.Kept (List ℕ × List ℕ) UnbondingEntry) (
 
 -- what the hooks are seen as: distribution, to which a listener listens, and the signing records
 abbrev pub HooksSeen : Type 0 → Type 0
-HooksSeen E = pair.HookPair (listening.Overheard Distributed E) Windowed
+HooksSeen E = pair.HookPair (pair.HookPair Distributed (listening.Listening E)) Windowed
 
 -- What each module keeps, without its marks, and apart from where calls happen and what was told.
 pub record Parts : Type 0 where
@@ -69,7 +69,7 @@ abbrev pub parts_of : {E : Type 0} → Modules E → Parts
 parts_of m = record {
   bank = m.ground.bank.holdings;
   stakes = stakes_kept m.stakes;
-  shared = m.hooks.first.hooks.kept;
+  shared = m.hooks.first.first.kept;
   signings = m.hooks.second.kept;
 }
 
@@ -78,7 +78,7 @@ kept_of m = kept_over (parts_of m) m.ground.ctx m.ground.facts
 
 -- who listens to them
 abbrev pub listener_of : {E : Type 0} → Modules E → E
-listener_of m = m.hooks.first.listener
+listener_of m = m.hooks.first.second.listener
 
 -- the ground that modules stand on
 abbrev pub ground_of : {E : Type 0} → Modules E → View
@@ -121,7 +121,7 @@ pub record AreSteady {E : Type 0} (m : Modules E) : Type 0 where
 
 -- what the hooks hold, and what they tell: distribution, then the signing records on what that leaves
 abbrev pub hooks_hold : {E : Type 0} → HooksSeen E → Shared × Signings → Type 0
-hooks_hold h held = KeepsShared h.first.hooks.kept held.0 × HoldsSignings h.second.kept held.1
+hooks_hold h held = KeepsShared h.first.first.kept held.0 × HoldsSignings h.second.kept held.1
 
 abbrev pub hooks_tell : Tells (Shared × Signings)
 hooks_tell = pair_tells distribution_tells signings_told
@@ -138,5 +138,5 @@ pub record IsNewOver {E : Type 0} (g : Ground Booked) (m : Modules E) : Type 0 w
   pub staking : m.stakes.staking ≡ new_register g.ctx.params.power_reduction
   pub unbondings : m.stakes.unbondings ≡ entries.nothing_kept
   pub redelegations : m.stakes.redelegations ≡ entries.nothing_kept
-  pub shared : m.hooks.first.hooks ≡ new_distributed
+  pub shared : m.hooks.first.first ≡ new_distributed
   pub signings : m.hooks.second ≡ new_window

@@ -42,7 +42,7 @@ abbrev pub stakes_marks : StakesSeen → StakeMarks
 stakes_marks s = record { staked = s.staking.marks; unbondings = s.unbondings.marks; redelegations = s.redelegations.marks }
 
 abbrev pub hooks_marks : {E : Type 0} → HooksSeen E → HookMarks
-hooks_marks h = record { shared = h.first.hooks.marks; signings = h.second.marks }
+hooks_marks h = record { shared = h.first.first.marks; signings = h.second.marks }
 
 abbrev pub marks_of : {E : Type 0} → Modules E → Marks
 marks_of m = record { bank = m.ground.bank.marks; stakes = stakes_marks m.stakes; hooks = hooks_marks m.hooks }
@@ -56,7 +56,7 @@ stakes_opened s = record {
 }
 
 abbrev pub hooks_opened : {E : Type 0} → HooksSeen E → HookMarks
-hooks_opened h = record { shared = h.first.hooks.marks ++ h.first.hooks.kept ∷ []; signings = h.second.marks ++ h.second.kept ∷ [] }
+hooks_opened h = record { shared = h.first.first.marks ++ h.first.first.kept ∷ []; signings = h.second.marks ++ h.second.kept ∷ [] }
 
 abbrev pub opened : {E : Type 0} → Modules E → Marks
 opened m = record { bank = m.ground.bank.marks ++ m.ground.bank.holdings ∷ []; stakes = stakes_opened m.stakes; hooks = hooks_opened m.hooks }
@@ -94,19 +94,19 @@ pub record AreClosed (old new : Marks) : Type 0 where
 -- ---- what was settled
 
 abbrev pub hooks_kept : {E : Type 0} → HooksSeen E → KeptShared × window.Kept
-hooks_kept h = (h.first.hooks.kept, h.second.kept)
+hooks_kept h = (h.first.first.kept, h.second.kept)
 
 abbrev pub stakes_settled : StakesSeen → Stakes
 stakes_settled s = record { staked = s.staking.settled; unbondings = s.unbondings.settled; redelegations = s.redelegations.settled }
 
 abbrev pub hooks_settled : {E : Type 0} → HooksSeen E → KeptShared × window.Kept
-hooks_settled h = (h.first.hooks.settled, h.second.settled)
+hooks_settled h = (h.first.first.settled, h.second.settled)
 
 abbrev pub settled_of : {E : Type 0} → Modules E → Parts
 settled_of m = record {
   bank = m.ground.bank.settled;
   stakes = stakes_settled m.stakes;
-  shared = m.hooks.first.hooks.settled;
+  shared = m.hooks.first.first.settled;
   signings = m.hooks.second.settled;
 }
 
@@ -131,7 +131,7 @@ behind_of m = record {
   staking = book.behind m.stakes.staking;
   unbondings = entries.behind m.stakes.unbondings;
   redelegations = entries.behind m.stakes.redelegations;
-  shared = distr.behind m.hooks.first.hooks;
+  shared = distr.behind m.hooks.first.first;
   signings = window.behind m.hooks.second;
 }
 

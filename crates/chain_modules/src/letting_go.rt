@@ -2,7 +2,7 @@
 //! does it in a function of its own.
 
 use crate::modules::{Hooks, Modules, Stakes};
-use crate::overheard::Overheard;
+use crate::listening::Listening;
 use base_roles::{Ground, HookPair};
 use mod_bank::BankBalances;
 use mod_distribution::Distr;
@@ -48,8 +48,11 @@ fn let_go_of_redelegations(_redelegations: Redelegations) {}
 /// Lets go of distribution, of the listener and of the signing records.
 fn let_go_of_hooks<E: Drop>(hooks: Hooks<E>) {
     let HookPair { first, second } = hooks;
-    let Overheard { hooks, listener } = first;
-    let_go_of_distribution(hooks);
+    let HookPair {
+        first: distribution,
+        second: Listening { listener },
+    } = first;
+    let_go_of_distribution(distribution);
     let_go_of_listener(listener);
     let_go_of_signings(second);
 }

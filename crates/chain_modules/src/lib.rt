@@ -7,11 +7,11 @@
 mod context;
 pub mod laws;
 mod letting_go;
+mod listening;
 mod listing;
 mod marks;
 mod modules;
-mod overheard;
 
 pub use letting_go::let_go;
-pub use modules::{Hooks, Modules, Stakes};
-pub use overheard::Overheard;
+pub use listening::Listening;
+pub use modules::{Heard, Hooks, Modules, Stakes};

@@ -18,9 +18,9 @@ impl<E: Extra> Modules<E> {
     /// It tells that the keys of what distribution keeps ascend, and does nothing. Its rewards stand for plain ones by
     /// what is found under each key, so their order is no part of that.
     pub fn ordered(&self)
-        ensures { AreInOrder self.now.hooks.first.hooks.kept }
+        ensures { AreInOrder self.now.hooks.first.first.kept }
     {
-        self.hooks.first.hooks.ordered();
+        self.hooks.first.first.ordered();
     }
 
     /// Appends the items of all modules, those of the context first. After `NoMemory` some of them may stand
@@ -102,7 +102,7 @@ fn hooks_into<E: Extra, L: Ledger>(
     ensures err { (some : List Item) × (out.new.items ≡ out.old.items ++ some) }
 {
     hooks.second.items_into(out, steps)?;
-    hooks.first.hooks.items_into(out, steps)
+    hooks.first.first.items_into(out, steps)
 }
 
 /// Appends their changes.
@@ -117,5 +117,5 @@ fn hook_changes_into<E: Extra, L: Ledger>(
     ensures err { (some : List (Item × Bool)) × (out.new.items ≡ out.old.items ++ some) }
 {
     hooks.second.changes_into(out, steps)?;
-    hooks.first.hooks.changes_into(out, steps)
+    hooks.first.first.changes_into(out, steps)
 }

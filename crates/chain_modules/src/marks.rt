@@ -5,11 +5,9 @@ ghost use Rattle.mod_distribution.specs.Kept.{KeptShared};
 ghost use Rattle.chain_modules.specs.Kept.{kept_of, parts_of, stakes_kept, listener_of};
 ghost use Rattle.chain_modules.specs.Marks.{marks_of, opened, settled_of, AreOpen, AreClosed, AreStakesClosed, no_marks, stakes_marks, stakes_opened, stakes_settled, hooks_kept, hooks_marks, hooks_opened, hooks_settled};
 
-use crate::modules::{Hooks, Modules, Stakes};
-use crate::overheard::Overheard;
+use crate::modules::{Heard, Hooks, Modules, Stakes};
 use base_roles::{Extra, RecordFault, Records};
 use base_types::Steps;
-use mod_distribution::Distr;
 use std::alloc::Global;
 use std::sync::ledger::Ledger;
 
@@ -59,8 +57,8 @@ impl<E: Extra> Modules<E> {
         self.stakes.staking.back(steps);
         self.stakes.unbondings.back(steps);
         self.stakes.redelegations.back(steps);
-        self.hooks.first.hooks.back(steps);
-        self.hooks.first.listener.back(steps);
+        self.hooks.first.first.back(steps);
+        self.hooks.first.second.listener.back(steps);
         self.hooks.second.back(steps);
     }
 
@@ -81,8 +79,8 @@ impl<E: Extra> Modules<E> {
         self.stakes.staking.forget(steps);
         self.stakes.unbondings.forget(steps);
         self.stakes.redelegations.forget(steps);
-        self.hooks.first.hooks.forget(steps);
-        self.hooks.first.listener.forget(steps);
+        self.hooks.first.first.forget(steps);
+        self.hooks.first.second.listener.forget(steps);
         self.hooks.second.forget(steps);
     }
 
@@ -101,7 +99,7 @@ impl<E: Extra> Modules<E> {
         self.stakes.staking.settle(steps);
         self.stakes.unbondings.settle(steps);
         self.stakes.redelegations.settle(steps);
-        self.hooks.first.hooks.settle(steps);
+        self.hooks.first.first.settle(steps);
         self.hooks.second.settle(steps);
     }
 }
@@ -122,11 +120,11 @@ fn mark_beside<E: Extra, L: Ledger>(
     ensures stakes_settled { stakes_settled stakes.new ≡ stakes_settled stakes.old }
     ensures hooks_settled { hooks_settled hooks.new ≡ hooks_settled hooks.old }
     ensures power { stakes.new.staking.power_reduction ≡ stakes.old.staking.power_reduction }
-    ensures listener_opened { OnOk result (E.Records.marks hooks.new.first.listener
-        ≡ E.Records.marks hooks.old.first.listener ++ E.kept hooks.old.first.listener ∷ []) }
+    ensures listener_opened { OnOk result (E.Records.marks hooks.new.first.second.listener
+        ≡ E.Records.marks hooks.old.first.second.listener ++ E.kept hooks.old.first.second.listener ∷ []) }
     ensures listener_err { OnErr result
-        (E.Records.marks hooks.new.first.listener ≡ E.Records.marks hooks.old.first.listener) }
-    ensures listener_same { E.kept hooks.new.first.listener ≡ E.kept hooks.old.first.listener }
+        (E.Records.marks hooks.new.first.second.listener ≡ E.Records.marks hooks.old.first.second.listener) }
+    ensures listener_same { E.kept hooks.new.first.second.listener ≡ E.kept hooks.old.first.second.listener }
 {
     mark_stakes(alloc, stakes, steps)?;
     match mark_hooks(alloc, hooks, steps) {
@@ -210,61 +208,61 @@ fn mark_hooks<E: Extra, L: Ledger>(
     ensures err { OnErr result (hooks_marks hooks.new ≡ hooks_marks hooks.old) }
     ensures same { hooks_kept hooks.new ≡ hooks_kept hooks.old }
     ensures settled { hooks_settled hooks.new ≡ hooks_settled hooks.old }
-    ensures listener_opened { OnOk result (E.Records.marks hooks.new.first.listener
-        ≡ E.Records.marks hooks.old.first.listener ++ E.kept hooks.old.first.listener ∷ []) }
+    ensures listener_opened { OnOk result (E.Records.marks hooks.new.first.second.listener
+        ≡ E.Records.marks hooks.old.first.second.listener ++ E.kept hooks.old.first.second.listener ∷ []) }
     ensures listener_err { OnErr result
-        (E.Records.marks hooks.new.first.listener ≡ E.Records.marks hooks.old.first.listener) }
-    ensures listener_same { E.kept hooks.new.first.listener ≡ E.kept hooks.old.first.listener }
+        (E.Records.marks hooks.new.first.second.listener ≡ E.Records.marks hooks.old.first.second.listener) }
+    ensures listener_same { E.kept hooks.new.first.second.listener ≡ E.kept hooks.old.first.second.listener }
 {
-    mark_overheard(alloc, &mut hooks.first, steps)?;
+    mark_heard(alloc, &mut hooks.first, steps)?;
     match hooks.second.mark(alloc, steps) {
         Ok(()) => Ok(()),
         Err(fault) => {
-            forget_overheard(&mut hooks.first, steps);
+            forget_heard(&mut hooks.first, steps);
             Err(fault)
         }
     }
 }
 
 /// Opens a mark of distribution and of the listener, or of neither.
-fn mark_overheard<E: Extra, L: Ledger>(
+fn mark_heard<E: Extra, L: Ledger>(
     alloc: Global,
-    heard: &mut Overheard<Distr, E>,
+    heard: &mut Heard<E>,
     steps: &mut Steps<L>,
 ) -> Result<(), RecordFault>
     ensures opened { OnOk result
-        (heard.new.hooks.marks ≡ heard.old.hooks.marks ++ heard.old.hooks.kept ∷ []) }
-    ensures err { OnErr result (heard.new.hooks.marks ≡ heard.old.hooks.marks) }
-    ensures same { heard.new.hooks.kept ≡ heard.old.hooks.kept }
-    ensures settled { heard.new.hooks.settled ≡ heard.old.hooks.settled }
-    ensures listener_opened { OnOk result (E.Records.marks heard.new.listener
-        ≡ E.Records.marks heard.old.listener ++ E.kept heard.old.listener ∷ []) }
+        (heard.new.first.marks ≡ heard.old.first.marks ++ heard.old.first.kept ∷ []) }
+    ensures err { OnErr result (heard.new.first.marks ≡ heard.old.first.marks) }
+    ensures same { heard.new.first.kept ≡ heard.old.first.kept }
+    ensures settled { heard.new.first.settled ≡ heard.old.first.settled }
+    ensures listener_opened { OnOk result (E.Records.marks heard.new.second.listener
+        ≡ E.Records.marks heard.old.second.listener ++ E.kept heard.old.second.listener ∷ []) }
     ensures listener_err { OnErr result
-        (E.Records.marks heard.new.listener ≡ E.Records.marks heard.old.listener) }
-    ensures listener_same { E.kept heard.new.listener ≡ E.kept heard.old.listener }
+        (E.Records.marks heard.new.second.listener ≡ E.Records.marks heard.old.second.listener) }
+    ensures listener_same { E.kept heard.new.second.listener ≡ E.kept heard.old.second.listener }
 {
-    heard.hooks.mark(alloc, steps)?;
-    match heard.listener.mark(alloc, steps) {
+    heard.first.mark(alloc, steps)?;
+    match heard.second.listener.mark(alloc, steps) {
         Ok(()) => Ok(()),
         Err(fault) => {
-            heard.hooks.forget(steps);
+            heard.first.forget(steps);
             Err(fault)
         }
     }
 }
 
 /// Closes the latest mark of distribution and of the listener.
-fn forget_overheard<E: Extra, L: Ledger>(heard: &mut Overheard<Distr, E>, steps: &mut Steps<L>)
-    requires hooks { heard.old.hooks.marks ≢ [] }
-    requires listener { E.Records.marks heard.old.listener ≢ [] }
-    ensures hooks { (last : KeptShared) × (heard.new.hooks.marks ++ last ∷ []
-        ≡ heard.old.hooks.marks) }
-    ensures same { heard.new.hooks.kept ≡ heard.old.hooks.kept }
-    ensures settled { heard.new.hooks.settled ≡ heard.old.hooks.settled }
-    ensures listener { (last : E.Kept) × (E.Records.marks heard.new.listener ++ last ∷ []
-        ≡ E.Records.marks heard.old.listener) }
-    ensures listener_same { E.kept heard.new.listener ≡ E.kept heard.old.listener }
+fn forget_heard<E: Extra, L: Ledger>(heard: &mut Heard<E>, steps: &mut Steps<L>)
+    requires hooks { heard.old.first.marks ≢ [] }
+    requires listener { E.Records.marks heard.old.second.listener ≢ [] }
+    ensures hooks { (last : KeptShared) × (heard.new.first.marks ++ last ∷ []
+        ≡ heard.old.first.marks) }
+    ensures same { heard.new.first.kept ≡ heard.old.first.kept }
+    ensures settled { heard.new.first.settled ≡ heard.old.first.settled }
+    ensures listener { (last : E.Kept) × (E.Records.marks heard.new.second.listener ++ last ∷ []
+        ≡ E.Records.marks heard.old.second.listener) }
+    ensures listener_same { E.kept heard.new.second.listener ≡ E.kept heard.old.second.listener }
 {
-    heard.hooks.forget(steps);
-    heard.listener.forget(steps);
+    heard.first.forget(steps);
+    heard.second.listener.forget(steps);
 }

@@ -3,7 +3,7 @@
 ghost use Rattle.std.specs.Prelude.{◌≡◌, ◌≤◌, ◌^◌};
 ghost use Rattle.chain_modules.specs.Kept.{IsNewOver, listener_of};
 
-use crate::overheard::Overheard;
+use crate::listening::Listening;
 use base_roles::{Extra, Ground, HookPair, NoHooks};
 use mod_bank::BankBalances;
 use mod_distribution::Distr;
@@ -17,8 +17,11 @@ use std::alloc::Global;
 /// What staking keeps: validators and delegations, unbonding entries, and redelegation entries.
 pub type Stakes = Core<Unbondings, Redelegations>;
 
+/// Distribution, and behind it a listener, over the ground that distribution leaves.
+pub type Heard<E = NoHooks> = HookPair<Distr, Listening<E>>;
+
 /// What hears of staking: distribution, behind it a listener, and then the signing records.
-pub type Hooks<E = NoHooks> = HookPair<Overheard<Distr, E>, Window>;
+pub type Hooks<E = NoHooks> = HookPair<Heard<E>, Window>;
 
 /// The bank within its ground, what staking keeps, and what hears of it. What is done to them is told as
 /// facts of the ground.
@@ -43,9 +46,9 @@ impl<E: Extra> Modules<E> {
             redelegations: Redelegations::new(alloc),
         };
         let hooks = HookPair {
-            first: Overheard {
-                hooks: Distr::new(alloc),
-                listener,
+            first: HookPair {
+                first: Distr::new(alloc),
+                second: Listening { listener },
             },
             second: Window::new(alloc),
         };

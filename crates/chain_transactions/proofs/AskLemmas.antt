@@ -28,7 +28,7 @@ asked_is who operator s x e = let both = by (validator_at s operator) (delegatio
     by None b q = absurd cc
 
 pub may_ask : {E : Type 0} (m : Modules E) (p : State) → Keeps (kept_of m) p → IsSound p → (who operator : List ℕ) (x : Validator × ℕ) → delegation_asked who operator m.stakes.staking.staked ≡ Ok x
-    → MayCall (KeepsShared m.hooks.first.hooks.kept) distribution_tells (modifying x.0 who x.1) (ground_of m)
+    → MayCall (KeepsShared m.hooks.first.first.kept) distribution_tells (modifying x.0 who x.1) (ground_of m)
 may_ask m p k s who operator x e =
     let staked = m.stakes.staking.staked in
     let asked = asked_is who operator staked x e in

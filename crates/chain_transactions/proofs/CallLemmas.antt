@@ -95,53 +95,53 @@ module _ {E M : Type 0} (marks : E → M) (old new : Modules E) (steady : AreSte
         → RegisterGoesOn old.stakes.staking new.stakes.staking answer → EndsWell (edit_validator m) old new answer
     edit_well m answer told register =
         let on : GoOn old new = register_on old new answer ground register u r h in
-        ends_well (edit_validator m) old new answer steady on (λ p s. edit_ends old new p s on.ctx (ap (λ x. x.first.hooks.kept) h) (ap (λ x. x.second.kept) h) (ap (λ x. x.lists) u) (ap (λ x. x.lists) r) m answer told)
+        ends_well (edit_validator m) old new answer steady on (λ p s. edit_ends old new p s on.ctx (ap (λ x. x.first.first.kept) h) (ap (λ x. x.second.kept) h) (ap (λ x. x.lists) u) (ap (λ x. x.lists) r) m answer told)
 
     pub unjail_well : (operator : List ℕ) (answer : Result ⊤ MessageFault)
         → ((i : Window) → KeepsSignings old.ground.ctx.params.signed_blocks_window old.hooks.second.kept i → AnswersHeld (unjailed operator i old.stakes.staking.staked (ground_of old)) new.stakes.staking.staked (ground_of new) answer)
         → RegisterGoesOn old.stakes.staking new.stakes.staking answer → EndsWell (unjail operator) old new answer
     unjail_well operator answer told register =
         let on : GoOn old new = register_on old new answer ground register u r h in
-        ends_well (unjail operator) old new answer steady on (λ p s. unjail_ends old new p s on.ctx (ap (λ x. x.first.hooks.kept) h) (ap (λ x. x.second.kept) h) (ap (λ x. x.lists) u) (ap (λ x. x.lists) r) operator answer (told (window_in p) s.keeps.signings))
+        ends_well (unjail operator) old new answer steady on (λ p s. unjail_ends old new p s on.ctx (ap (λ x. x.first.first.kept) h) (ap (λ x. x.second.kept) h) (ap (λ x. x.lists) u) (ap (λ x. x.lists) r) operator answer (told (window_in p) s.keeps.signings))
 
   -- ---- distribution
 
   module _ (stakes : new.stakes ≡ old.stakes) (second : new.hooks.second ≡ old.hooks.second) (ground : CanBeUndone bank.behind old.ground new.ground) where
     pub commission_well : (operator : List ℕ) (answer : Result Money MessageFault)
-        → ((d : Shared) → KeepsShared old.hooks.first.hooks.kept d → CarriesOutOrRefuses (commission_withdrawn operator d (ground_of old)) new.hooks.first.hooks.kept (ground_of new) answer)
-        → SharedGoesOn old.hooks.first.hooks new.hooks.first.hooks answer → EndsWell (withdraw_commission operator) old new (dropped answer)
+        → ((d : Shared) → KeepsShared old.hooks.first.first.kept d → CarriesOutOrRefuses (commission_withdrawn operator d (ground_of old)) new.hooks.first.first.kept (ground_of new) answer)
+        → SharedGoesOn old.hooks.first.first new.hooks.first.first answer → EndsWell (withdraw_commission operator) old new (dropped answer)
     commission_well operator answer told goes =
         let on : GoOn old new = shared_on old new answer ground goes stakes second in
         ends_well (withdraw_commission operator) old new (dropped answer) steady on
         (λ p s. commission_ends old new p s on.ctx (ap stakes_kept stakes) (ap (λ x. x.kept) second) operator answer (told (shared_in p) s.keeps.shared))
 
     pub reward_well : (who operator : List ℕ) (x : Validator × ℕ) (answer : Result Money MessageFault) → delegation_asked who operator old.stakes.staking.staked ≡ Ok x
-        → ((d : Shared) → KeepsShared old.hooks.first.hooks.kept d → CarriesOutOrRefuses (stopping Overflow (reward_renewed x.0 who x.1 d (ground_of old))) new.hooks.first.hooks.kept (ground_of new) answer)
-        → SharedGoesOn old.hooks.first.hooks new.hooks.first.hooks answer → EndsWell (withdraw_reward who operator) old new (dropped answer)
+        → ((d : Shared) → KeepsShared old.hooks.first.first.kept d → CarriesOutOrRefuses (stopping Overflow (reward_renewed x.0 who x.1 d (ground_of old))) new.hooks.first.first.kept (ground_of new) answer)
+        → SharedGoesOn old.hooks.first.first new.hooks.first.first answer → EndsWell (withdraw_reward who operator) old new (dropped answer)
     reward_well who operator x answer asked told goes =
         let on : GoOn old new = shared_on old new answer ground goes stakes second in
         ends_well (withdraw_reward who operator) old new (dropped answer) steady on
         (λ p s. reward_ends old new p s on.ctx (ap stakes_kept stakes) (ap (λ y. y.kept) second) who operator x answer asked (told (shared_in p) s.keeps.shared))
 
     pub payee_well : (who : List ℕ) (to : Account) (answer : Result ⊤ MessageFault) → new.ground ≡ old.ground
-        → ((d : Shared) → KeepsShared old.hooks.first.hooks.kept d → SetsOrRefuses (payee_set who to old.ground.ctx.params d) new.hooks.first.hooks.kept answer)
-        → SharedGoesOn old.hooks.first.hooks new.hooks.first.hooks answer → EndsWell (set_withdraw_address who to) old new answer
+        → ((d : Shared) → KeepsShared old.hooks.first.first.kept d → SetsOrRefuses (payee_set who to old.ground.ctx.params d) new.hooks.first.first.kept answer)
+        → SharedGoesOn old.hooks.first.first new.hooks.first.first answer → EndsWell (set_withdraw_address who to) old new answer
     payee_well who to answer same told goes =
         let on : GoOn old new = shared_on old new answer ground goes stakes second in
         ends_well (set_withdraw_address who to) old new answer steady on
         (λ p s. payee_ends old new p s on.ctx (ap stakes_kept stakes) (ap (λ y. y.kept) second) who to answer (ap (λ g. record { bank = g.bank.holdings; ctx = g.ctx; facts = g.facts }) same) (told (shared_in p) s.keeps.shared))
 
     pub fund_well : (who : List ℕ) (coins : Money) (answer : Result ⊤ MessageFault) → IsMoney coins
-        → ((d : Shared) → KeepsShared old.hooks.first.hooks.kept d → PoolsOrRefuses (pool_funded who coins d (ground_of old)) new.hooks.first.hooks.kept (ground_of new) answer)
-        → SharedGoesOn old.hooks.first.hooks new.hooks.first.hooks answer → EndsWell (fund_community_pool who coins) old new answer
+        → ((d : Shared) → KeepsShared old.hooks.first.first.kept d → PoolsOrRefuses (pool_funded who coins d (ground_of old)) new.hooks.first.first.kept (ground_of new) answer)
+        → SharedGoesOn old.hooks.first.first new.hooks.first.first answer → EndsWell (fund_community_pool who coins) old new answer
     fund_well who coins answer money told goes =
         let on : GoOn old new = shared_on old new answer ground goes stakes second in
         ends_well (fund_community_pool who coins) old new answer steady on
         (λ p s. fund_ends old new p s on.ctx (ap stakes_kept stakes) (ap (λ y. y.kept) second) who coins answer money (told (shared_in p) s.keeps.shared))
 
     pub spend_well : (authority : List ℕ) (to : Account) (coins : Money) (answer : Result ⊤ MessageFault) → IsMoney coins
-        → ((d : Shared) → KeepsShared old.hooks.first.hooks.kept d → PoolsOrRefuses (pool_spent authority to coins d (ground_of old)) new.hooks.first.hooks.kept (ground_of new) answer)
-        → SharedGoesOn old.hooks.first.hooks new.hooks.first.hooks answer → EndsWell (community_pool_spend authority to coins) old new answer
+        → ((d : Shared) → KeepsShared old.hooks.first.first.kept d → PoolsOrRefuses (pool_spent authority to coins d (ground_of old)) new.hooks.first.first.kept (ground_of new) answer)
+        → SharedGoesOn old.hooks.first.first new.hooks.first.first answer → EndsWell (community_pool_spend authority to coins) old new answer
     spend_well authority to coins answer money told goes =
         let on : GoOn old new = shared_on old new answer ground goes stakes second in
         ends_well (community_pool_spend authority to coins) old new answer steady on
@@ -154,4 +154,4 @@ module _ {E M : Type 0} (marks : E → M) (old new : Modules E) (steady : AreSte
   send_well from to coins answer stakes hooks ground money told =
       let on : GoOn old new = all_on old new ground (ap (λ c. book.behind c.staking) stakes) (ap (λ c. entries.behind c.unbondings) stakes) (ap (λ c. entries.behind c.redelegations) stakes) (ap hooks_behind hooks) in
       ends_well (send from to coins) old new answer steady on
-      (λ p s. send_ends old new p s on.ctx (ap stakes_kept stakes) (ap (λ x. x.first.hooks.kept) hooks) (ap (λ x. x.second.kept) hooks) from to coins answer money told)
+      (λ p s. send_ends old new p s on.ctx (ap stakes_kept stakes) (ap (λ x. x.first.first.kept) hooks) (ap (λ x. x.second.kept) hooks) from to coins answer money told)

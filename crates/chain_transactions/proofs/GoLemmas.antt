@@ -26,16 +26,16 @@ use Rattle.chain_transactions.proofs.MessageLemmas.{append_nil}
 
 -- what stands behind the hooks
 abbrev pub hooks_behind : {E : Type 0} → HooksSeen E → distr.Behind × window.Behind
-hooks_behind h = (distr.behind h.first.hooks, window.behind h.second)
+hooks_behind h = (distr.behind h.first.first, window.behind h.second)
 
 -- the same with the marks of a listener, of which it is told what they are
 abbrev pub hook_marks : {E M : Type 0} → (E → M) → HooksSeen E → (distr.Behind × M) × window.Behind
-hook_marks marks h = ((distr.behind h.first.hooks, marks h.first.listener), window.behind h.second)
+hook_marks marks h = ((distr.behind h.first.first, marks h.first.second.listener), window.behind h.second)
 
 pub unheard : {E M : Type 0} (marks : E → M) (old new : HooksSeen E) → hook_marks marks new ≡ hook_marks marks old → hooks_behind new ≡ hooks_behind old
 unheard marks old new e = λ i. ((e i).0.0, (e i).1)
 
-pub listener_behind : {E M : Type 0} (marks : E → M) (old new : HooksSeen E) → hook_marks marks new ≡ hook_marks marks old → marks new.first.listener ≡ marks old.first.listener
+pub listener_behind : {E M : Type 0} (marks : E → M) (old new : HooksSeen E) → hook_marks marks new ≡ hook_marks marks old → marks new.first.second.listener ≡ marks old.first.second.listener
 listener_behind marks old new e = λ i. (e i).0.1
 
 pub all_on : {E : Type 0} (old new : Modules E) → CanBeUndone bank.behind old.ground new.ground → book.behind new.stakes.staking ≡ book.behind old.stakes.staking
@@ -75,7 +75,7 @@ pub register_on : {A F E : Type 0} (old new : Modules E) (answer : Result A F) �
 register_on old new answer g s u r h = all_on old new g s.behind (ap entries.behind u) (ap entries.behind r) (ap hooks_behind h)
 
 -- one of distribution
-pub shared_on : {A F E : Type 0} (old new : Modules E) (answer : Result A F) → CanBeUndone bank.behind old.ground new.ground → SharedGoesOn old.hooks.first.hooks new.hooks.first.hooks answer
+pub shared_on : {A F E : Type 0} (old new : Modules E) (answer : Result A F) → CanBeUndone bank.behind old.ground new.ground → SharedGoesOn old.hooks.first.first new.hooks.first.first answer
     → new.stakes ≡ old.stakes → new.hooks.second ≡ old.hooks.second → GoOn old new
 shared_on old new answer g d s w =
     all_on old new g (ap (λ c. book.behind c.staking) s) (ap (λ c. entries.behind c.unbondings) s) (ap (λ c. entries.behind c.redelegations) s)
@@ -92,7 +92,7 @@ ground_stays old new e = record {
 -- ---- what a listener hears
 
 -- where only the listener heard something, the modules keep the same
-pub heard_kept : {E H : Type 0} (old new : Modules E) (h : H) (still : H → Type 0) → new.stakes ≡ old.stakes → new.hooks.first.hooks ≡ old.hooks.first.hooks → new.hooks.second ≡ old.hooks.second → (answer : Result ⊤ HookFault)
+pub heard_kept : {E H : Type 0} (old new : Modules E) (h : H) (still : H → Type 0) → new.stakes ≡ old.stakes → new.hooks.first.first ≡ old.hooks.first.first → new.hooks.second ≡ old.hooks.second → (answer : Result ⊤ HookFault)
     → Answers (gives h (ground_of old) []) still (ground_of new) answer → OnOk answer (kept_of new ≡ kept_of old)
 heard_kept old new h still stakes shared signings (Ok a) told = λ i. record {
   stakes = record { staked = (stakes i).staking.staked; unbondings = (stakes i).unbondings.lists; redelegations = (stakes i).redelegations.lists };

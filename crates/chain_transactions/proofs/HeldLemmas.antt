@@ -57,7 +57,7 @@ module _ {E : Type 0} (old new : Modules E) (p : State) (s : StandsWhole (kept_o
 
   -- ---- validators
 
-  module _ (shared : new.hooks.first.hooks.kept ≡ old.hooks.first.hooks.kept) (signings : new.hooks.second.kept ≡ old.hooks.second.kept)
+  module _ (shared : new.hooks.first.first.kept ≡ old.hooks.first.first.kept) (signings : new.hooks.second.kept ≡ old.hooks.second.kept)
       (unbondings : new.stakes.unbondings.lists ≡ old.stakes.unbondings.lists) (redelegations : new.stakes.redelegations.lists ≡ old.stakes.redelegations.lists) where
     -- what is kept after a message that changes validators and the ground alone
     keeps_staked : (t : Staked) (v : View) → new.stakes.staking.staked ≡ t → ground_of new ≡ v → Keeps (kept_of new) (over_view (λ u. v) (over_mine (λ c. record c { staked = t }) p))
@@ -106,42 +106,42 @@ module _ {E : Type 0} (old new : Modules E) (p : State) (s : StandsWhole (kept_o
 
   module _ (stakes : stakes_kept new.stakes ≡ stakes_kept old.stakes) (signings : new.hooks.second.kept ≡ old.hooks.second.kept) where
     -- what is kept after a message that changes distribution's records and the ground alone
-    keeps_distributed : (d : Shared) (v : View) (l : Log) → KeepsShared new.hooks.first.hooks.kept d → ground_of new ≡ v → Keeps (kept_of new) (with_shared d v l p)
+    keeps_distributed : (d : Shared) (v : View) (l : Log) → KeepsShared new.hooks.first.first.kept d → ground_of new ≡ v → Keeps (kept_of new) (with_shared d v l p)
     keeps_distributed d v l h g = record { stakes = s.keeps.stakes ∙ sym stakes; shared = h; signings = same_signings signings; view = sym g }
 
     -- a payment that is logged
-    paid_ends : {A : Type 0} (r : Result (A × Shared × View × Log) Refusal) (answer : Result A MessageFault) → CarriesOutOrRefuses r new.hooks.first.hooks.kept (ground_of new) answer
+    paid_ends : {A : Type 0} (r : Result (A × Shared × View × Log) Refusal) (answer : Result A MessageFault) → CarriesOutOrRefuses r new.hooks.first.first.kept (ground_of new) answer
         → AsRuled (r >>= λ x. Ok (with_shared x.1 x.2 x.3 p)) (dropped answer) (λ due b. Keeps (kept_of new) due) StopsForMemory RefusesAs
     paid_ends (Ok due) (Ok a) h = keeps_distributed due.1 due.2 due.3 h.1 h.2
     paid_ends (Ok due) (Err why) h = h
     paid_ends (Err due) (Ok a) h = absurd h
     paid_ends (Err due) (Err why) h = h
 
-    pub commission_ends : (operator : List ℕ) (answer : Result Money MessageFault) → CarriesOutOrRefuses (commission_withdrawn operator (shared_in p) (ground_of old)) new.hooks.first.hooks.kept (ground_of new) answer
+    pub commission_ends : (operator : List ℕ) (answer : Result Money MessageFault) → CarriesOutOrRefuses (commission_withdrawn operator (shared_in p) (ground_of old)) new.hooks.first.first.kept (ground_of new) answer
         → MessageEnds (withdraw_commission operator p) (kept_of new) (dropped answer)
     commission_ends operator answer h =
         message_ends (msg.WithdrawCommission (record { validator = operator })) (kept_of old) (kept_of new) p (dropped answer) tt s
         (paid_ends (commission_withdrawn operator (shared_in p) p.view) answer
-        (subst (λ v. CarriesOutOrRefuses (commission_withdrawn operator (shared_in p) v) new.hooks.first.hooks.kept (ground_of new) answer) (sym s.keeps.view) h))
+        (subst (λ v. CarriesOutOrRefuses (commission_withdrawn operator (shared_in p) v) new.hooks.first.first.kept (ground_of new) answer) (sym s.keeps.view) h))
 
     pub reward_ends : (who operator : List ℕ) (x : Validator × ℕ) (answer : Result Money MessageFault) → delegation_asked who operator old.stakes.staking.staked ≡ Ok x
-        → CarriesOutOrRefuses (stopping Overflow (reward_renewed x.0 who x.1 (shared_in p) (ground_of old))) new.hooks.first.hooks.kept (ground_of new) answer
+        → CarriesOutOrRefuses (stopping Overflow (reward_renewed x.0 who x.1 (shared_in p) (ground_of old))) new.hooks.first.first.kept (ground_of new) answer
         → MessageEnds (withdraw_reward who operator p) (kept_of new) (dropped answer)
     reward_ends who operator x answer e h =
         message_ends (msg.WithdrawReward (record { delegator = who; validator = operator })) (kept_of old) (kept_of new) p (dropped answer) tt s
         (paid_ends (reward_taken p.mine.staked who operator (shared_in p) p.view) answer
-        (subst (λ r. CarriesOutOrRefuses r new.hooks.first.hooks.kept (ground_of new) answer)
+        (subst (λ r. CarriesOutOrRefuses r new.hooks.first.first.kept (ground_of new) answer)
         (sym (asked_then p.mine.staked who operator (shared_in p) p.view x (subst (λ c. delegation_asked who operator c ≡ Ok x) first_staked e)))
-        (subst (λ v. CarriesOutOrRefuses (stopping Overflow (reward_renewed x.0 who x.1 (shared_in p) v)) new.hooks.first.hooks.kept (ground_of new) answer) (sym s.keeps.view) h)))
+        (subst (λ v. CarriesOutOrRefuses (stopping Overflow (reward_renewed x.0 who x.1 (shared_in p) v)) new.hooks.first.first.kept (ground_of new) answer) (sym s.keeps.view) h)))
 
-    pub payee_ends : (who : List ℕ) (to : Account) (answer : Result ⊤ MessageFault) → ground_of new ≡ ground_of old → SetsOrRefuses (payee_set who to old.ground.ctx.params (shared_in p)) new.hooks.first.hooks.kept answer
+    pub payee_ends : (who : List ℕ) (to : Account) (answer : Result ⊤ MessageFault) → ground_of new ≡ ground_of old → SetsOrRefuses (payee_set who to old.ground.ctx.params (shared_in p)) new.hooks.first.first.kept answer
         → MessageEnds (set_withdraw_address who to p) (kept_of new) answer
     payee_ends who to answer same h =
         message_ends (msg.SetWithdrawAddress (record { delegator = who; withdraw = to })) (kept_of old) (kept_of new) p answer tt s
         (by (payee_set who to p.view.ctx.params (shared_in p)) answer
-        (subst (λ (v : View). SetsOrRefuses (payee_set who to v.ctx.params (shared_in p)) new.hooks.first.hooks.kept answer) (sym s.keeps.view) h))
+        (subst (λ (v : View). SetsOrRefuses (payee_set who to v.ctx.params (shared_in p)) new.hooks.first.first.kept answer) (sym s.keeps.view) h))
       where
-        by : (r : Result Shared Refusal) (a : Result ⊤ MessageFault) → SetsOrRefuses r new.hooks.first.hooks.kept a
+        by : (r : Result Shared Refusal) (a : Result ⊤ MessageFault) → SetsOrRefuses r new.hooks.first.first.kept a
             → AsRuled (r >>= λ d. Ok (with_shared d p.view [] p)) a (λ due b. Keeps (kept_of new) due) StopsForMemory RefusesAs
         by (Ok d) (Ok x) h = keeps_distributed d p.view [] h (same ∙ sym s.keeps.view)
         by (Ok d) (Err why) h = h
@@ -149,7 +149,7 @@ module _ {E : Type 0} (old new : Modules E) (p : State) (s : StandsWhole (kept_o
         by (Err due) (Err why) h = h
 
     -- coins into the pool, and out of it
-    pooled_ends : (r : Result (⊤ × Shared × View) Refusal) (answer : Result ⊤ MessageFault) → AsRuled r answer (λ due a. KeepsShared new.hooks.first.hooks.kept due.1 × (ground_of new ≡ due.2)) StopsForMemory RefusesAs
+    pooled_ends : (r : Result (⊤ × Shared × View) Refusal) (answer : Result ⊤ MessageFault) → AsRuled r answer (λ due a. KeepsShared new.hooks.first.first.kept due.1 × (ground_of new ≡ due.2)) StopsForMemory RefusesAs
         → AsRuled (r >>= λ x. Ok (with_shared x.1 x.2 [] p)) answer (λ due b. Keeps (kept_of new) due) StopsForMemory RefusesAs
     pooled_ends (Ok due) (Ok a) h = keeps_distributed due.1 due.2 [] h.0 h.1
     pooled_ends (Ok due) (Err why) h = h
@@ -157,24 +157,24 @@ module _ {E : Type 0} (old new : Modules E) (p : State) (s : StandsWhole (kept_o
     pooled_ends (Err due) (Err why) h = h
 
     pub fund_ends : (who : List ℕ) (coins : Money) (answer : Result ⊤ MessageFault) → IsMoney coins
-        → AsRuled (pool_funded who coins (shared_in p) (ground_of old)) answer (λ due a. KeepsShared new.hooks.first.hooks.kept due.1 × (ground_of new ≡ due.2)) StopsForMemory RefusesAs
+        → AsRuled (pool_funded who coins (shared_in p) (ground_of old)) answer (λ due a. KeepsShared new.hooks.first.first.kept due.1 × (ground_of new ≡ due.2)) StopsForMemory RefusesAs
         → MessageEnds (fund_community_pool who coins p) (kept_of new) answer
     fund_ends who coins answer money h =
         message_ends (msg.FundCommunityPool (record { depositor = who; coins = coins })) (kept_of old) (kept_of new) p answer money s
         (pooled_ends (pool_funded who coins (shared_in p) p.view) answer
-        (subst (λ v. AsRuled (pool_funded who coins (shared_in p) v) answer (λ due a. KeepsShared new.hooks.first.hooks.kept due.1 × (ground_of new ≡ due.2)) StopsForMemory RefusesAs) (sym s.keeps.view) h))
+        (subst (λ v. AsRuled (pool_funded who coins (shared_in p) v) answer (λ due a. KeepsShared new.hooks.first.first.kept due.1 × (ground_of new ≡ due.2)) StopsForMemory RefusesAs) (sym s.keeps.view) h))
 
     pub spend_ends : (authority : List ℕ) (to : Account) (coins : Money) (answer : Result ⊤ MessageFault) → IsMoney coins
-        → AsRuled (pool_spent authority to coins (shared_in p) (ground_of old)) answer (λ due a. KeepsShared new.hooks.first.hooks.kept due.1 × (ground_of new ≡ due.2)) StopsForMemory RefusesAs
+        → AsRuled (pool_spent authority to coins (shared_in p) (ground_of old)) answer (λ due a. KeepsShared new.hooks.first.first.kept due.1 × (ground_of new ≡ due.2)) StopsForMemory RefusesAs
         → MessageEnds (community_pool_spend authority to coins p) (kept_of new) answer
     spend_ends authority to coins answer money h =
         message_ends (msg.CommunityPoolSpend (record { authority = authority; recipient = to; coins = coins })) (kept_of old) (kept_of new) p answer money s
         (pooled_ends (pool_spent authority to coins (shared_in p) p.view) answer
-        (subst (λ v. AsRuled (pool_spent authority to coins (shared_in p) v) answer (λ due a. KeepsShared new.hooks.first.hooks.kept due.1 × (ground_of new ≡ due.2)) StopsForMemory RefusesAs) (sym s.keeps.view) h))
+        (subst (λ v. AsRuled (pool_spent authority to coins (shared_in p) v) answer (λ due a. KeepsShared new.hooks.first.first.kept due.1 × (ground_of new ≡ due.2)) StopsForMemory RefusesAs) (sym s.keeps.view) h))
 
   -- ---- sends
 
-  module _ (stakes : stakes_kept new.stakes ≡ stakes_kept old.stakes) (shared : new.hooks.first.hooks.kept ≡ old.hooks.first.hooks.kept) (signings : new.hooks.second.kept ≡ old.hooks.second.kept) where
+  module _ (stakes : stakes_kept new.stakes ≡ stakes_kept old.stakes) (shared : new.hooks.first.first.kept ≡ old.hooks.first.first.kept) (signings : new.hooks.second.kept ≡ old.hooks.second.kept) where
     -- what is kept after coins moved
     pub keeps_grounded : (v : View) → ground_of new ≡ v → Keeps (kept_of new) (over_view (λ u. v) p)
     keeps_grounded v g = record { stakes = s.keeps.stakes ∙ sym stakes; shared = subst (λ k. KeepsShared k (shared_in p)) (sym shared) s.keeps.shared; signings = same_signings signings; view = sym g }

@@ -27,7 +27,7 @@ pub record IsUpdated {E : Type 0} (authority : List ℕ) (p : Params) (old new :
   pub ctx : new.ground.ctx ≡ record old.ground.ctx { params = p }
   pub facts : new.ground.facts ≡ old.ground.facts ++ fact.ParamsChanged authority ∷ []
   pub stakes : stakes_kept new.stakes ≡ stakes_kept old.stakes
-  pub shared : new.hooks.first.hooks.kept ≡ old.hooks.first.hooks.kept
+  pub shared : new.hooks.first.first.kept ≡ old.hooks.first.first.kept
   pub signings : (i : Window) → KeepsSignings old.ground.ctx.params.signed_blocks_window old.hooks.second.kept i
       → KeepsSignings p.signed_blocks_window new.hooks.second.kept (window_resized old.ground.ctx.params.signed_blocks_window p.signed_blocks_window i)
 

@@ -74,7 +74,7 @@ fn renew<E: Extra, L: Ledger>(
     modules
         .hooks
         .first
-        .hooks
+        .first
         .withdraw_reward(alloc, &mut modules.ground, v, &m.delegator, shares, steps)?;
     Ok(())
 }
@@ -107,6 +107,7 @@ fn hear_start<E: Extra, L: Ledger>(
     modules
         .hooks
         .first
+        .second
         .listener
         .after_delegation_modified(alloc, &mut modules.ground, v, delegator, shares, steps)
 }
@@ -149,7 +150,7 @@ pub(crate) fn withdraw_commission<E: Extra, L: Ledger>(
     modules
         .hooks
         .first
-        .hooks
+        .first
         .withdraw_commission(alloc, &mut modules.ground, &m.validator, steps)?;
     Ok(())
 }
@@ -175,7 +176,7 @@ pub(crate) fn set_withdraw_address<E: Extra, L: Ledger>(
     modules
         .hooks
         .first
-        .hooks
+        .first
         .set_withdraw(&params, facts, &m.delegator, &m.withdraw, steps)
 }
 
@@ -201,7 +202,7 @@ pub(crate) fn fund_community_pool<E: Extra, L: Ledger>(
     modules
         .hooks
         .first
-        .hooks
+        .first
         .fund(alloc, &mut modules.ground, &m.depositor, &m.coins, steps)
 }
 
@@ -224,7 +225,7 @@ pub(crate) fn community_pool_spend<E: Extra, L: Ledger>(
 {
     // It tells that they are a list of coins.
     let _ = m.coins.len();
-    modules.hooks.first.hooks.spend(
+    modules.hooks.first.first.spend(
         alloc,
         &mut modules.ground,
         &m.authority,

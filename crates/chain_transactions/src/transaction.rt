@@ -199,7 +199,7 @@ fn apply_transaction<E: Extra, L: Ledger>(
 {
     let outcome = pay_and_apply(alloc, modules, tx, steps)?;
     let facts = mem::replace(&mut modules.ground.facts, Facts::new(alloc));
-    modules.hooks.first.listener.after_part(facts.len());
+    modules.hooks.first.second.listener.after_part(facts.len());
     Ok(TxReport { facts, outcome })
 }
 

@@ -134,7 +134,7 @@ impl<E: Extra> Chain<E> {
     pub fn extra(&self) -> &E
         ensures { result.now ≡ self.now.listener }
     {
-        &self.modules.hooks.first.listener
+        &self.modules.hooks.first.second.listener
     }
 
     /// The validator of an operator, or None exactly where none has it. Takes no memory.
@@ -277,6 +277,6 @@ impl<E: Extra> Chain<E> {
         if self.spent {
             return Err(ChainFault::NoMemory);
         }
-        Ok(pool_of::<Brand>(&self.modules.hooks.first.hooks, Blank::new(1))?)
+        Ok(pool_of::<Brand>(&self.modules.hooks.first.first, Blank::new(1))?)
     }
 }

@@ -1,5 +1,5 @@
 -- What a recorder heard: its notes, and how many facts the parts of the present block told before this one.
-use Rattle.std.specs.Prelude.{ℕ, ◌+◌, ◌-◌, ◌*◌, ◌^◌, min, List, [], ◌∷◌, ◌++◌, length, Option, Some, None}
+use Rattle.std.specs.Prelude.{ℕ, ◌+◌, ◌-◌, ◌*◌, ◌^◌, ◌≤◌, ⊤, min, List, [], ◌∷◌, ◌++◌, length, Option, Some, None}
 use Rattle.base_decimals.specs.Rounding.{cut}
 use Rattle.base_roles.specs.World.{View, Hook, created, removed, bonded, starting, modifying, modified, slashing}
 use Rattle.mod_statement.specs.declared.entry.Entry.TheVariants.{Started, Slashed, Touched}
@@ -32,6 +32,16 @@ note_of facts (starting v delegator) = None
 note_of facts (modifying v delegator shares) = Some (record { operator = v.operator; delegator = Some delegator; facts = facts; entry = Some Touched })
 note_of facts (modified v delegator shares) = Some (record { operator = v.operator; delegator = Some delegator; facts = facts; entry = Some (Started shares v.tokens v.shares) })
 note_of facts (slashing v fraction) = Some (record { operator = v.operator; delegator = None; facts = facts; entry = Some (Slashed (burned_of fraction v.tokens) v.tokens) })
+
+-- a slash is of at most the whole of at most 10^18 tokens
+abbrev pub CanBurn : Hook → Type 0
+CanBurn (created v) = ⊤
+CanBurn (removed v) = ⊤
+CanBurn (bonded v) = ⊤
+CanBurn (starting v delegator) = ⊤
+CanBurn (modifying v delegator shares) = ⊤
+CanBurn (modified v delegator shares) = ⊤
+CanBurn (slashing v fraction) = (fraction ≤ 10 ^ 18) × (v.tokens ≤ 10 ^ 18)
 
 -- one more note, where there is one
 abbrev pub noted : Option Note → Noted → Noted

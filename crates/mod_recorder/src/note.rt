@@ -1,9 +1,10 @@
 //! What a recorder notes of one call.
 
 ghost use Rattle.std.specs.Prelude.{◌≡◌, ◌^◌, ◌≤◌};
-ghost use Rattle.mod_recorder.specs.Notes.{burned_of};
+ghost use Rattle.mod_recorder.specs.Notes.{CanBurn, burned_of, note_of};
 
 use base_decimals::Dec;
+use base_roles::Hook;
 use base_types::Addr;
 use mod_statement::Entry;
 
@@ -31,4 +32,56 @@ pub(crate) fn burned_of(fraction: Dec, tokens: u128) -> u128
     ensures { result ≡ burned_of fraction tokens }
 {
     fraction.raw() * tokens / ONE
+}
+
+/// What is noted of a call, behind so many facts of its block, or None where nothing is.
+pub(crate) fn note_of(facts: usize, hook: &Hook) -> Option<Note>
+    requires { CanBurn hook.now }
+    ensures { result ≡ note_of facts hook.now }
+{
+    match hook {
+        Hook::Created { validator } => Some(Note {
+            operator: validator.operator,
+            delegator: None,
+            facts,
+            entry: None,
+        }),
+        Hook::Removed { .. } | Hook::Bonded { .. } | Hook::Starting { .. } => None,
+        Hook::Modifying {
+            validator,
+            delegator,
+            ..
+        } => Some(Note {
+            operator: validator.operator,
+            delegator: Some(*delegator),
+            facts,
+            entry: Some(Entry::Touched),
+        }),
+        Hook::Modified {
+            validator,
+            delegator,
+            shares,
+        } => Some(Note {
+            operator: validator.operator,
+            delegator: Some(*delegator),
+            facts,
+            entry: Some(Entry::Started {
+                shares: *shares,
+                tokens: validator.tokens,
+                total: validator.shares,
+            }),
+        }),
+        Hook::Slashing {
+            validator,
+            fraction,
+        } => Some(Note {
+            operator: validator.operator,
+            delegator: None,
+            facts,
+            entry: Some(Entry::Slashed {
+                burned: burned_of(*fraction, validator.tokens),
+                tokens: validator.tokens,
+            }),
+        }),
+    }
 }

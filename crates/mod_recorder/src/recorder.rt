@@ -3,14 +3,12 @@
 ghost use Rattle.std.specs.Prelude.{◌≡◌, List, length, slice_get, OnOk, OnErr, Some};
 ghost use Rattle.std.specs.Option.{option_copied};
 ghost use Rattle.base_roles.specs.Listeners.{listener_tells, listener_lawful, listener_listens};
-ghost use Rattle.mod_recorder.specs.Notes.{Noted, heard, parted, ended, noted, counted};
+ghost use Rattle.mod_recorder.specs.Notes.{CanBurn, Noted, heard, parted, ended, noted, note_of, counted};
 ghost use Rattle.mod_recorder.specs.Recorded.{new_recorded};
 
-use crate::note::{Note, burned_of};
-use base_decimals::Dec;
-use base_roles::{Bank, Extra, Ground, HookFault, RecordFault, StakingHooks, Validator};
-use base_types::{Addr, Steps};
-use mod_statement::Entry;
+use crate::note::{Note, note_of};
+use base_roles::{Bank, Extra, Ground, Hook, HookFault, RecordFault, StakingHooks};
+use base_types::Steps;
 use std::alloc::Global;
 use std::marker::Model;
 use std::sync::ledger::Ledger;
@@ -76,32 +74,38 @@ impl Recorder {
         self.notes.get(place)
     }
 
-    /// Notes a call, in whose part so many facts were told before it.
-    fn note(
-        &mut self,
-        facts: usize,
-        operator: Addr,
-        delegator: Option<Addr>,
-        entry: Option<Entry>,
-    ) -> Result<(), RecordFault>
-        ensures noted { OnOk result (self.new.noted ≡ noted (Some (record {
-          operator = operator;
-          delegator = delegator;
-          facts = counted self.old.noted.before facts;
-          entry = entry;
-        })) self.old.noted) }
+    /// What is noted of a call, in whose part so many facts were told before it.
+    fn told(&self, facts: usize, hook: &Hook) -> Option<Note>
+        requires { CanBurn hook.now }
+        ensures { result ≡ note_of (counted self.now.noted.before facts) hook.now }
+    {
+        note_of(self.before.saturating_add(facts), hook)
+    }
+
+    /// Puts one more note.
+    fn put(&mut self, note: Note) -> Result<(), RecordFault>
+        ensures noted { OnOk result (self.new.noted ≡ noted (Some note) self.old.noted) }
         ensures err { OnErr result (self.new.noted ≡ self.old.noted) }
         ensures marks { self.new.marks ≡ self.old.marks }
         ensures settled { self.new.settled ≡ self.old.settled }
     {
-        let facts = self.before.saturating_add(facts);
-        self.notes.push(Note {
-            operator,
-            delegator,
-            facts,
-            entry,
-        })?;
+        self.notes.push(note)?;
         Ok(())
+    }
+
+    /// Notes a call, in whose part so many facts were told before it.
+    fn note(&mut self, facts: usize, hook: &Hook) -> Result<(), RecordFault>
+        requires { CanBurn hook.now }
+        ensures noted { OnOk result (self.new.noted
+            ≡ noted (note_of (counted self.old.noted.before facts) hook.now) self.old.noted) }
+        ensures err { OnErr result (self.new.noted ≡ self.old.noted) }
+        ensures marks { self.new.marks ≡ self.old.marks }
+        ensures settled { self.new.settled ≡ self.old.settled }
+    {
+        match self.told(facts, hook) {
+            Some(note) => self.put(note),
+            None => Ok(()),
+        }
     }
 }
 
@@ -116,93 +120,14 @@ impl StakingHooks for Recorder {
 
     ghost marks = { λ r. r.marks };
 
-    fn after_validator_created<B: Bank, L: Ledger>(
+    fn hear<B: Bank, L: Ledger>(
         &mut self,
         _alloc: Global,
         g: &mut Ground<B>,
-        v: &Validator,
+        hook: &Hook,
         _steps: &mut Steps<L>,
     ) -> Result<(), HookFault> {
-        self.note(g.facts.len(), v.operator, None, None)?;
-        Ok(())
-    }
-
-    fn after_validator_removed<B: Bank, L: Ledger>(
-        &mut self,
-        _alloc: Global,
-        _g: &mut Ground<B>,
-        _v: &Validator,
-        _steps: &mut Steps<L>,
-    ) -> Result<(), HookFault> {
-        Ok(())
-    }
-
-    fn after_validator_bonded<B: Bank, L: Ledger>(
-        &mut self,
-        _alloc: Global,
-        _g: &mut Ground<B>,
-        _v: &Validator,
-        _steps: &mut Steps<L>,
-    ) -> Result<(), HookFault> {
-        Ok(())
-    }
-
-    fn before_delegation_created<B: Bank, L: Ledger>(
-        &mut self,
-        _alloc: Global,
-        _g: &mut Ground<B>,
-        _v: &Validator,
-        _delegator: &Addr,
-        _steps: &mut Steps<L>,
-    ) -> Result<(), HookFault> {
-        Ok(())
-    }
-
-    fn before_shares_modified<B: Bank, L: Ledger>(
-        &mut self,
-        _alloc: Global,
-        g: &mut Ground<B>,
-        v: &Validator,
-        delegator: &Addr,
-        _shares: Dec,
-        _steps: &mut Steps<L>,
-    ) -> Result<(), HookFault> {
-        let facts = g.facts.len();
-        self.note(facts, v.operator, Some(*delegator), Some(Entry::Touched))?;
-        Ok(())
-    }
-
-    fn after_delegation_modified<B: Bank, L: Ledger>(
-        &mut self,
-        _alloc: Global,
-        g: &mut Ground<B>,
-        v: &Validator,
-        delegator: &Addr,
-        shares: Dec,
-        _steps: &mut Steps<L>,
-    ) -> Result<(), HookFault> {
-        let started = Entry::Started {
-            shares,
-            tokens: v.tokens,
-            total: v.shares,
-        };
-        self.note(g.facts.len(), v.operator, Some(*delegator), Some(started))?;
-        Ok(())
-    }
-
-    fn before_validator_slashed<B: Bank, L: Ledger>(
-        &mut self,
-        _alloc: Global,
-        g: &mut Ground<B>,
-        v: &Validator,
-        fraction: Dec,
-        _steps: &mut Steps<L>,
-    ) -> Result<(), HookFault> {
-        let slashed = Entry::Slashed {
-            burned: burned_of(fraction, v.tokens),
-            tokens: v.tokens,
-        };
-        self.note(g.facts.len(), v.operator, None, Some(slashed))?;
+        self.note(g.facts.len(), hook)?;
         Ok(())
     }
 

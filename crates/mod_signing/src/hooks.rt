@@ -10,9 +10,8 @@ ghost use Rattle.mod_signing.specs.Lawful.{signings_lawful};
 
 use crate::entry::Entry;
 use crate::window::Window;
-use base_decimals::Dec;
-use base_roles::{Bank, Ground, HookFault, SigningInfo, StakingHooks, Validator};
-use base_types::{Addr, Moment, Steps};
+use base_roles::{Bank, Ground, Hook, HookFault, SigningInfo, StakingHooks};
+use base_types::{Moment, Steps};
 use std::alloc::Global;
 use std::sync::ledger::Ledger;
 
@@ -27,82 +26,26 @@ impl StakingHooks for Window {
 
     ghost marks = { behind };
 
-    fn after_validator_created<B: Bank, L: Ledger>(
-        &mut self,
-        _alloc: Global,
-        _g: &mut Ground<B>,
-        _v: &Validator,
-        _steps: &mut Steps<L>,
-    ) -> Result<(), HookFault> {
-        Ok(())
-    }
-
-    fn after_validator_removed<B: Bank, L: Ledger>(
-        &mut self,
-        _alloc: Global,
-        _g: &mut Ground<B>,
-        _v: &Validator,
-        _steps: &mut Steps<L>,
-    ) -> Result<(), HookFault> {
-        Ok(())
-    }
-
-    fn after_validator_bonded<B: Bank, L: Ledger>(
+    fn hear<B: Bank, L: Ledger>(
         &mut self,
         _alloc: Global,
         g: &mut Ground<B>,
-        v: &Validator,
+        hook: &Hook,
         steps: &mut Steps<L>,
     ) -> Result<(), HookFault> {
-        let next = begun(self.tables.entry(&v.cons, steps), g.ctx.height);
-        self.tables.put_info(&v.cons, next, steps)?;
-        Ok(())
-    }
-
-    fn before_delegation_created<B: Bank, L: Ledger>(
-        &mut self,
-        _alloc: Global,
-        _g: &mut Ground<B>,
-        _v: &Validator,
-        _delegator: &Addr,
-        _steps: &mut Steps<L>,
-    ) -> Result<(), HookFault> {
-        Ok(())
-    }
-
-    fn before_shares_modified<B: Bank, L: Ledger>(
-        &mut self,
-        _alloc: Global,
-        _g: &mut Ground<B>,
-        _v: &Validator,
-        _delegator: &Addr,
-        _shares: Dec,
-        _steps: &mut Steps<L>,
-    ) -> Result<(), HookFault> {
-        Ok(())
-    }
-
-    fn after_delegation_modified<B: Bank, L: Ledger>(
-        &mut self,
-        _alloc: Global,
-        _g: &mut Ground<B>,
-        _v: &Validator,
-        _delegator: &Addr,
-        _shares: Dec,
-        _steps: &mut Steps<L>,
-    ) -> Result<(), HookFault> {
-        Ok(())
-    }
-
-    fn before_validator_slashed<B: Bank, L: Ledger>(
-        &mut self,
-        _alloc: Global,
-        _g: &mut Ground<B>,
-        _v: &Validator,
-        _fraction: Dec,
-        _steps: &mut Steps<L>,
-    ) -> Result<(), HookFault> {
-        Ok(())
+        match hook {
+            Hook::Bonded { validator } => {
+                let next = begun(self.tables.entry(&validator.cons, steps), g.ctx.height);
+                self.tables.put_info(&validator.cons, next, steps)?;
+                Ok(())
+            }
+            Hook::Created { .. }
+            | Hook::Removed { .. }
+            | Hook::Starting { .. }
+            | Hook::Modifying { .. }
+            | Hook::Modified { .. }
+            | Hook::Slashing { .. } => Ok(()),
+        }
     }
 
     ghost lawful = { signings_lawful };

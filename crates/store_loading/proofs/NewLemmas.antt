@@ -38,7 +38,7 @@ module _ {E : Type 0} (ctx : Ctx) (m : Modules E) (new : IsNewOver (empty_ground
   pub redelegations_none : HasNone (redelegate.items_of m.stakes.redelegations.lists)
   redelegations_none = subst (λ s. HasNone (redelegate.items_of s.lists)) (sym new.redelegations) none
 
-  pub shared_none : HasNone (distr.items_of m.hooks.first.hooks.kept)
+  pub shared_none : HasNone (distr.items_of m.hooks.first.first.kept)
   shared_none = subst (λ s. HasNone (distr.items_of s.kept)) (sym new.shared) pool_alone
 
   pub signings_none : HasNone (window.items_of m.hooks.second.kept)

@@ -117,7 +117,7 @@ pub record AreUnspent {E : Type 0} (m : Modules E) : Type 0 where
   pub staking : m.stakes.staking.spent ≡ false
   pub unbondings : m.stakes.unbondings.spent ≡ false
   pub redelegations : m.stakes.redelegations.spent ≡ false
-  pub shared : m.hooks.first.hooks.spent ≡ false
+  pub shared : m.hooks.first.first.spent ≡ false
   pub signings : m.hooks.second.spent ≡ false
 
 -- Modules that were loaded from records: they keep just these, and are settled as they stand.

@@ -94,7 +94,7 @@ fn ordered(modules: &Modules)
     modules.stakes.staking.keyed();
     modules.stakes.unbondings.ordered();
     modules.stakes.redelegations.ordered();
-    modules.hooks.first.hooks.ordered();
+    modules.hooks.first.first.ordered();
     modules.hooks.second.ordered();
 }
 
@@ -119,6 +119,6 @@ fn load_modules<L: Ledger>(
     load_staking(alloc, &mut modules.stakes.staking, items, steps)?;
     load_all(alloc, &mut modules.stakes.unbondings, items, steps)?;
     load_all(alloc, &mut modules.stakes.redelegations, items, steps)?;
-    load_all(alloc, &mut modules.hooks.first.hooks, items, steps)?;
+    load_all(alloc, &mut modules.hooks.first.first, items, steps)?;
     load_all(alloc, &mut modules.hooks.second, items, steps)
 }

@@ -11,7 +11,7 @@ pub returns-clause-ends : goal.returns-clause-ends
 returns-clause-ends g c =
     let old : Modules g.row.E.Denot = c.args.modules.now in
     let after = c.withdraw_commission.new in
-    let new : Modules g.row.E.Denot = record { ground = after.g; stakes = old.stakes; hooks = record { first = record { hooks = after.self; listener = old.hooks.first.listener }; second = old.hooks.second } } in
+    let new : Modules g.row.E.Denot = record { ground = after.g; stakes = old.stakes; hooks = record { first = record { first = after.self; second = record { listener = old.hooks.first.second.listener } }; second = old.hooks.second } } in
     let done = c.in_ok-withdraw_commission in
     (commission_well g.E.StakingHooks.marks old new c.requires.steady refl refl c.withdraw_commission.ensures.undone c.args.m.now.validator (Ok done.field-0) done.ensures.withdrawn done.ensures.goes_on).ends
 
@@ -19,6 +19,6 @@ pub returns-clause-steady : goal.returns-clause-steady
 returns-clause-steady g c =
     let old : Modules g.row.E.Denot = c.args.modules.now in
     let after = c.withdraw_commission.new in
-    let new : Modules g.row.E.Denot = record { ground = after.g; stakes = old.stakes; hooks = record { first = record { hooks = after.self; listener = old.hooks.first.listener }; second = old.hooks.second } } in
+    let new : Modules g.row.E.Denot = record { ground = after.g; stakes = old.stakes; hooks = record { first = record { first = after.self; second = record { listener = old.hooks.first.second.listener } }; second = old.hooks.second } } in
     let done = c.in_ok-withdraw_commission in
     (commission_well g.E.StakingHooks.marks old new c.requires.steady refl refl c.withdraw_commission.ensures.undone c.args.m.now.validator (Ok done.field-0) done.ensures.withdrawn done.ensures.goes_on).steady

@@ -37,7 +37,7 @@ returns-clause-heard g c = λ w s.
     let new : Modules g.row.E.Denot = record {
       ground = record { bank = after.ground.bank; ctx = after.ground.ctx; facts = c.replace-facts.new.dest };
       stakes = after.stakes;
-      hooks = record { first = record { hooks = first.hooks; listener = c.after_part.new.self }; second = after.hooks.second };
+      hooks = record { first = record { first = first.first; second = record { listener = c.after_part.new.self } }; second = after.hooks.second };
     } in
     let same : kept_of new ≡ cleared (kept_of after)
     = λ i. record { stakes = (kept_of after).stakes; shared = (kept_of after).shared; signings = (kept_of after).signings; view = record { bank = (kept_of after).view.bank; ctx = (kept_of after).view.ctx; facts = (c.replace-facts.ensures.after ∙ c.new.ensures) i } } in

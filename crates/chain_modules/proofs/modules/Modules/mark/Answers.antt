@@ -13,12 +13,12 @@ returns-in_err-mark-clause-err g c =
 pub returns-in_err-mark-clause-same : goal.returns-in_err-mark-clause-same
 returns-in_err-mark-clause-same g c =
     let m = c.args.self.now in
-    λ i. record { stakes = stakes_kept m.stakes; shared = m.hooks.first.hooks.kept; signings = m.hooks.second.kept; view = record { bank = c.mark.ensures.kept i; ctx = m.ground.ctx; facts = m.ground.facts } }
+    λ i. record { stakes = stakes_kept m.stakes; shared = m.hooks.first.first.kept; signings = m.hooks.second.kept; view = record { bank = c.mark.ensures.kept i; ctx = m.ground.ctx; facts = m.ground.facts } }
 
 pub returns-in_err-mark-clause-settled : goal.returns-in_err-mark-clause-settled
 returns-in_err-mark-clause-settled g c =
     let m = c.args.self.now in
-    λ i. record { bank = c.mark.ensures.settled i; stakes = stakes_settled m.stakes; shared = m.hooks.first.hooks.settled; signings = m.hooks.second.settled }
+    λ i. record { bank = c.mark.ensures.settled i; stakes = stakes_settled m.stakes; shared = m.hooks.first.first.settled; signings = m.hooks.second.settled }
 
 pub returns-in-Ok-clause-opened : goal.returns-in-Ok-clause-opened
 returns-in-Ok-clause-opened g c = λ i. record { bank = c.in_ok-mark.ensures.opened i; stakes = c.in-Ok.ensures.stakes_opened i; hooks = c.in-Ok.ensures.hooks_opened i }

@@ -1,5 +1,0 @@
-use Rattle.base_roles.proofs.HookLemmas.{second_may}
-use Rattle.base_roles.proofs.pair.HookPairStakingHooks.after_validator_removed.Goals as goal
-
-pub after_validator_removed-requires-2 : goal.after_validator_removed-requires-2
-after_validator_removed-requires-2 g c = second_may _ _ g.met.X.StakingHooks.lawful _ _ _ _ _ _ c.requires c.in_ok-after_validator_removed.ensures.told

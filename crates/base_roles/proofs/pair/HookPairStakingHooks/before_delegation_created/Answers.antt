@@ -1,5 +1,0 @@
-use Rattle.base_roles.proofs.HookLemmas.{second_may}
-use Rattle.base_roles.proofs.pair.HookPairStakingHooks.before_delegation_created.Goals as goal
-
-pub before_delegation_created-requires-2 : goal.before_delegation_created-requires-2
-before_delegation_created-requires-2 g c = second_may _ _ g.met.X.StakingHooks.lawful _ _ _ _ _ _ c.requires c.in_ok-before_delegation_created.ensures.told

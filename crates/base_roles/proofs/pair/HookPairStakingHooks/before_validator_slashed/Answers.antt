@@ -1,5 +1,0 @@
-use Rattle.base_roles.proofs.HookLemmas.{second_may}
-use Rattle.base_roles.proofs.pair.HookPairStakingHooks.before_validator_slashed.Goals as goal
-
-pub before_validator_slashed-requires-2 : goal.before_validator_slashed-requires-2
-before_validator_slashed-requires-2 g c = second_may _ _ g.met.X.StakingHooks.lawful _ _ _ _ _ _ c.requires c.in_ok-before_validator_slashed.ensures.told
