@@ -1,6 +1,6 @@
 //! The bonded set made anew.
 
-ghost use Rattle.std.specs.Prelude.{◌≡◌, ◌+◌, ◌*◌, ◌^◌, ◌≤◌, true, length, OnOk, IfErr};
+ghost use Rattle.std.specs.Prelude.{◌≡◌, ◌+◌, ◌*◌, ◌^◌, ◌≤◌, true, length, OnOk, IfErr, option_map};
 ghost use Rattle.std.specs.List.{AllByRecursion};
 ghost use Rattle.std.specs.Map.{values_of};
 ghost use Rattle.base_roles.specs.declared.faults.HookFault.TheVariants.{NoMemory};
@@ -13,6 +13,8 @@ ghost use Rattle.rule_modules.specs.Amounts.{count_where};
 ghost use Rattle.rule_modules.specs.Answers.{Leaves};
 ghost use Rattle.rule_modules.specs.BondedSet.{HaveOwnOperators, joined_set, set_updated, tokens_of};
 ghost use Rattle.mod_staking.specs.Calls.{IsSoundStake, behind_log};
+ghost use Rattle.mod_staking.specs.KnownSet.{IsKnown};
+ghost use Rattle.mod_staking.specs.Places.{standing};
 ghost use Rattle.mod_staking.specs.Registered.{behind};
 ghost use Rattle.mod_staking.specs.Scenes.{IsHooked, IsScene, KeepsAccounts};
 ghost use Rattle.rule_modules.specs.Unbondings.{completion};
@@ -21,9 +23,9 @@ ghost use Rattle.mod_bonded_set.specs.Sets.{AllStand, all_joined, all_left, all_
 use crate::joining::join;
 use crate::leaving::leave;
 use crate::paying::move_difference;
-use crate::set::{who_joins, who_leaves};
+use crate::set::who_moves;
 use base_roles::{Bank, Ground, HookFault, StakingHooks, Validator};
-use base_types::Steps;
+use base_types::{Addr, Steps};
 use mod_staking::Staking;
 use std::alloc::Global;
 use std::sync::ledger::Ledger;
@@ -69,16 +71,27 @@ pub fn update<B: Bank, H: StakingHooks, L: Ledger>(
 {
     let reduction = g.ctx.params.power_reduction;
     let most = g.ctx.params.max_validators;
-    let set = who_joins(alloc, staking, reduction, most, steps)?;
-    let outside = who_leaves(alloc, staking, &set.last, reduction, steps)?;
-    let joining = set.validators.as_slice();
-    let leaving = outside.as_slice();
+    let moves = who_moves(alloc, staking, reduction, most, steps)?;
+    let joining = moves.joining.as_slice();
+    let leaving = moves.leaving.as_slice();
     join_all(alloc, g, hooks, staking, joining, steps)?;
     leave_all(g, staking, leaving, steps)?;
     let joined = tokens_of(joining);
     let left = tokens_of(leaving);
     move_difference(alloc, g, joined, left, steps)?;
+    tell(staking, &moves.last);
     Ok(())
+}
+
+/// Tells staking the place down to which validators are bonded and behind which none is, where one was found.
+fn tell(staking: &mut Staking, last: &Option<(u64, Addr)>)
+    requires { IsKnown staking.old.power_reduction (option_map standing last.now)
+        staking.old.staked.validators }
+    ensures { staking.new ≡ staking.old }
+{
+    if let Some(last) = last {
+        staking.know_set(*last);
+    }
 }
 
 /// Validators join the bonded set one after another.
