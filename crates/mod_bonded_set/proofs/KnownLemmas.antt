@@ -209,12 +209,17 @@ module _ (r most : ℕ) (s : Staked) (sorted : IsStrictlySortedBy addr_cmp (keys
   unmoved (Some p) t e f =
       let vs = values_of s.validators in
       let none = sym j ∙ e in
-      let nobody = sym l ∙ f in
-      (none, (nobody, All-from_recursion (λ v. is_within r (Some p) v ≡ is_bonded v.status) vs
-      (three (λ v. is_within r (Some p) v ≡ is_in_bonded_set r most vs v) (λ v. (is_in_bonded_set r most vs v && not (is_bonded v.status)) ≡ false) (λ v. (is_bonded v.status && not (is_in_bonded_set r most vs v)) ≡ false) _ vs
-      (λ v x y z. x ∙ same_if _ _ y z)
-      (standing_all r s.validators sorted keyed (λ v. is_within r (Some p) v ≡ is_in_bonded_set r most vs v) t)
-      (fail_all _ vs (none_ordered r _ none)) (fail_all _ vs nobody))))
+      let nobody = sym l ∙ f in (
+        none,
+        (
+          nobody,
+          All-from_recursion (λ v. is_within r (Some p) v ≡ is_bonded v.status) vs
+              (three (λ v. is_within r (Some p) v ≡ is_in_bonded_set r most vs v) (λ v. (is_in_bonded_set r most vs v && not (is_bonded v.status)) ≡ false) (λ v. (is_bonded v.status && not (is_in_bonded_set r most vs v)) ≡ false) _ vs
+              (λ v x y z. x ∙ same_if _ _ y z)
+              (standing_all r s.validators sorted keyed (λ v. is_within r (Some p) v ≡ is_in_bonded_set r most vs v) t)
+              (fail_all _ vs (none_ordered r _ none)) (fail_all _ vs nobody)),
+        ),
+      )
 
 -- what is found stays known behind a change of nobody
 pub known_after : (r most height time : ℕ) (s s1 s2 : Staked) (last : Option Standing) → IsUnmoved r most s last → s1 ≡ all_joined (joining_of r most (values_of s.validators)) s

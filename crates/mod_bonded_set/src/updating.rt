@@ -15,9 +15,9 @@ ghost use Rattle.rule_modules.specs.BondedSet.{HaveOwnOperators, joined_set, set
 ghost use Rattle.mod_staking.specs.Calls.{IsSoundStake, behind_log};
 ghost use Rattle.mod_staking.specs.KnownSet.{IsKnown};
 ghost use Rattle.mod_staking.specs.Places.{standing};
-ghost use Rattle.mod_staking.specs.Registered.{behind};
 ghost use Rattle.mod_staking.specs.Scenes.{IsHooked, IsScene, KeepsAccounts};
 ghost use Rattle.rule_modules.specs.Unbondings.{completion};
+ghost use Rattle.mod_bonded_set.specs.Calls.{AllStays, RegisterStays};
 ghost use Rattle.mod_bonded_set.specs.Sets.{AllStand, all_joined, all_left, all_leavings_noted};
 
 use crate::joining::join;
@@ -58,12 +58,8 @@ pub fn update<B: Bank, H: StakingHooks, L: Ledger>(
         (seen B.holdings g.new) staking.new.staked) }
 
     // Whatever the answer.
-    ensures undone { CanBeUndone B.marks g.old g.new }
-    ensures bank { B.most_steps g.new.bank ≡ B.most_steps g.old.bank }
-    ensures hook_marks { H.marks hooks.new ≡ H.marks hooks.old }
-    ensures behind { behind staking.new ≡ behind staking.old }
-    ensures spent { staking.old.spent ≡ true → staking.new.spent ≡ true }
-    ensures unspent { OnOk result (staking.new.spent ≡ staking.old.spent) }
+    ensures stays { AllStays B.marks B.most_steps H.marks
+        g.old g.new hooks.old hooks.new staking.old staking.new result }
     ensures cost { (h : H.Held) → H.holds hooks.old h → H.tells.most_steps h ≤ 4
         → B.most_steps g.old.bank ≤ 8 → steps.new ≤ steps.old + 24
         * (g.old.ctx.params.max_validators
@@ -123,12 +119,8 @@ fn join_all<B: Bank, H: StakingHooks, L: Ledger>(
         (seen B.holdings g.old) (seen B.holdings g.new) result }
 
     // Whatever the answer.
-    ensures undone { CanBeUndone B.marks g.old g.new }
-    ensures bank { B.most_steps g.new.bank ≡ B.most_steps g.old.bank }
-    ensures hook_marks { H.marks hooks.new ≡ H.marks hooks.old }
-    ensures behind { behind staking.new ≡ behind staking.old }
-    ensures spent { staking.old.spent ≡ true → staking.new.spent ≡ true }
-    ensures unspent { OnOk result (staking.new.spent ≡ staking.old.spent) }
+    ensures stays { AllStays B.marks B.most_steps H.marks
+        g.old g.new hooks.old hooks.new staking.old staking.new result }
     ensures cost { (h : H.Held) → H.holds hooks.old h
         → steps.new ≤ steps.old + length joining.now * (9 + H.tells.most_steps h) }
 {
@@ -160,9 +152,7 @@ fn leave_all<B: Bank, L: Ledger>(
 
     // Whatever the answer.
     ensures undone { CanBeUndone B.marks g.old g.new }
-    ensures behind { behind staking.new ≡ behind staking.old }
-    ensures spent { staking.old.spent ≡ true → staking.new.spent ≡ true }
-    ensures unspent { OnOk result (staking.new.spent ≡ staking.old.spent) }
+    ensures register { RegisterStays staking.old staking.new result }
     ensures cost { steps.new ≤ steps.old + 9 * length leaving.now }
 {
     for v in leaving {

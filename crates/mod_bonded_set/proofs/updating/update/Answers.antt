@@ -1,4 +1,4 @@
-use Rattle.std.proofs.Common.{◌≡◌, ◌∙◌, ℕ, ◌^◌, ◌≤◌, None, length, ap, sym, subst, arith, rules, ◌-◌, Ok, Err, IfErr, option_map}
+use Rattle.std.proofs.Common.{◌≡◌, ◌∙◌, ℕ, ◌^◌, ◌≤◌, None, length, refl, ap, sym, subst, arith, rules, ◌-◌, Ok, Err, IfErr, option_map}
 use Rattle.std.specs.{List.AllByRecursion, Map.values_of}
 use Rattle.base_types.specs.declared.account.Account.TheVariants as account
 use Rattle.base_types.specs.declared.account.Module.TheVariants as holder
@@ -9,8 +9,8 @@ use Rattle.rule_modules.specs.{Amounts.count_where, Answers.Leaves}
 use Rattle.rule_modules.specs.BondedSet.{HaveOwnOperators, joined_set, set_updated, tokens_of, difference_moved}
 use Rattle.rule_modules.specs.Unbondings.{completion}
 use Rattle.mod_staking.specs.{Calls.behind_log, KnownSet.IsKnown, Places.standing, Scenes.IsScene}
-use Rattle.mod_bonded_set.specs.Sets.{AllStand, all_joined, all_left, all_leavings_noted}
-use Rattle.mod_bonded_set.proofs.{KnownLemmas.known_after, JoinedLemmas.memory_wanting, LoopLemmas.{turns_within, undone-none, undone-then}}
+use Rattle.mod_bonded_set.specs.{Calls.AllStays, Sets.{AllStand, all_joined, all_left, all_leavings_noted}}
+use Rattle.mod_bonded_set.proofs.{KnownLemmas.known_after, JoinedLemmas.memory_wanting, LoopLemmas.{turns_within, fine, register-none, stays-none, stays-then}}
 use Rattle.mod_bonded_set.proofs.PassedLemmas.{joining-few, leaving-few}
 use Rattle.mod_bonded_set.proofs.SceneLemmas.{leaving-stand-now, backed2, enough-to_bonded, enough-from_bonded, accounts3, stand3}
 use Rattle.mod_bonded_set.proofs.StandLemmas.{joining-stand, joining-apart, joining-all, leaving-apart, leaving-all}
@@ -100,7 +100,7 @@ tell-requires g c =
     let out = c.as_slice-leaving.ensures.value ∙ c.in_ok-moves.ensures.leaving in
     let joined = c.in_ok-join_all.ensures.staked ∙ ap (λ l. all_joined l s) is in
     let left = c.in_ok-leave_all.ensures.staked ∙ ap (λ l. all_left v1.ctx.height (completion v1.ctx) l s1) out in
-    let power = ap (λ b. b.power_reduction) (c.leave_all.ensures.behind ∙ c.join_all.ensures.behind) ∙ c.requires.power in
+    let power = ap (λ b. b.power_reduction) (c.leave_all.ensures.register.behind ∙ c.join_all.ensures.stays.register.behind) ∙ c.requires.power in
     subst (λ r. IsKnown r (option_map standing c.in_ok-moves.field-0.0.last) k.staked.validators) (sym power)
     (known_after p.power_reduction p.max_validators v1.ctx.height (completion v1.ctx) s s1 k.staked (option_map standing c.in_ok-moves.field-0.0.last) c.in_ok-moves.ensures.unmoved joined left)
 
@@ -245,7 +245,7 @@ returns-in_err-move_difference-clause-cost g c = λ h o few_steps bank_steps.
     let out = c.as_slice-leaving.ensures.value ∙ c.in_ok-moves.ensures.leaving in
     let less = subst (λ l. length l ≤ count_where (λ v. is_bonded v.status) (values_of s.validators)) (sym out) (leaving-few p.power_reduction s.validators (sound_ascend s sound) (sound_keyed s sound) p.max_validators) in
     let l = c.leave_all.ensures.cost in
-    let most_steps = ap g.B.Bank.most_steps c.leave_all.ensures.bank ∙ c.join_all.ensures.bank in
+    let most_steps = ap g.B.Bank.most_steps c.leave_all.ensures.bank ∙ c.join_all.ensures.stays.bank in
     let m = c.move_difference.ensures.cost in
     omega (arith, a, turns, j, less, l, most_steps, m, bank_steps)
 
@@ -262,18 +262,35 @@ returns-clause-cost g c = λ h o few_steps bank_steps.
     let out = c.as_slice-leaving.ensures.value ∙ c.in_ok-moves.ensures.leaving in
     let less = subst (λ l. length l ≤ count_where (λ v. is_bonded v.status) (values_of s.validators)) (sym out) (leaving-few p.power_reduction s.validators (sound_ascend s sound) (sound_keyed s sound) p.max_validators) in
     let l = c.leave_all.ensures.cost in
-    let most_steps = ap g.B.Bank.most_steps c.leave_all.ensures.bank ∙ c.join_all.ensures.bank in
+    let most_steps = ap g.B.Bank.most_steps c.leave_all.ensures.bank ∙ c.join_all.ensures.stays.bank in
     let m = c.move_difference.ensures.cost in
     omega (arith, a, turns, j, less, l, most_steps, m, bank_steps)
 
-pub returns-in_err-moves-clause-undone : goal.returns-in_err-moves-clause-undone
-returns-in_err-moves-clause-undone g c = undone-none g.B.Bank.marks c.args.g.now
+pub returns-in_err-moves-clause-stays : goal.returns-in_err-moves-clause-stays
+returns-in_err-moves-clause-stays g c = stays-none g.B.Bank.marks g.B.Bank.most_steps g.H.StakingHooks.marks c.args.g.now c.args.hooks.now c.args.staking.now c.from_residual.result
 
-pub returns-in_err-leave_all-clause-undone : goal.returns-in_err-leave_all-clause-undone
-returns-in_err-leave_all-clause-undone g c = undone-then g.B.Bank.marks c.args.g.now c.join_all.new.g c.leave_all.new.g c.join_all.ensures.undone c.leave_all.ensures.undone
+pub returns-in_err-join_all-clause-stays : goal.returns-in_err-join_all-clause-stays
+returns-in_err-join_all-clause-stays g c =
+    let fault = c.in_err-join_all.field-0.0 in
+    let given : c.from_residual-in_err-join_all.result ≡ Err fault = search rules in
+    subst (AllStays g.B.Bank.marks g.B.Bank.most_steps g.H.StakingHooks.marks c.args.g.now c.join_all.new.g c.args.hooks.now c.join_all.new.hooks c.args.staking.now c.join_all.new.staking) (sym given)
+    c.in_err-join_all.ensures.stays
 
-pub returns-in_err-move_difference-clause-undone : goal.returns-in_err-move_difference-clause-undone
-returns-in_err-move_difference-clause-undone g c = undone-then g.B.Bank.marks c.args.g.now c.leave_all.new.g c.move_difference.new.g (undone-then g.B.Bank.marks c.args.g.now c.join_all.new.g c.leave_all.new.g c.join_all.ensures.undone c.leave_all.ensures.undone) c.move_difference.ensures.undone
+pub returns-in_err-leave_all-clause-stays : goal.returns-in_err-leave_all-clause-stays
+returns-in_err-leave_all-clause-stays g c =
+    let fault = c.in_err-leave_all.field-0.0 in
+    let given : c.from_residual-in_err-leave_all.result ≡ Err fault = search rules in
+    subst (AllStays g.B.Bank.marks g.B.Bank.most_steps g.H.StakingHooks.marks c.args.g.now c.leave_all.new.g c.args.hooks.now c.join_all.new.hooks c.args.staking.now c.leave_all.new.staking) (sym given)
+    (stays-then g.B.Bank.marks g.B.Bank.most_steps g.H.StakingHooks.marks c.args.g.now c.join_all.new.g c.leave_all.new.g c.args.hooks.now c.join_all.new.hooks c.join_all.new.hooks c.args.staking.now c.join_all.new.staking c.leave_all.new.staking (Err fault) c.in_ok-join_all.ensures.stays (record { undone = c.leave_all.ensures.undone; bank = ap g.B.Bank.most_steps c.leave_all.ensures.bank; hook_marks = refl; register = c.in_err-leave_all.ensures.register }))
 
-pub returns-clause-undone : goal.returns-clause-undone
-returns-clause-undone g c = undone-then g.B.Bank.marks c.args.g.now c.leave_all.new.g c.move_difference.new.g (undone-then g.B.Bank.marks c.args.g.now c.join_all.new.g c.leave_all.new.g c.join_all.ensures.undone c.leave_all.ensures.undone) c.move_difference.ensures.undone
+pub returns-in_err-move_difference-clause-stays : goal.returns-in_err-move_difference-clause-stays
+returns-in_err-move_difference-clause-stays g c =
+    let fault = c.in_err-move_difference.field-0.0 in
+    let given : c.from_residual-in_err-move_difference.result ≡ Err fault = search rules in
+    subst (AllStays g.B.Bank.marks g.B.Bank.most_steps g.H.StakingHooks.marks c.args.g.now c.move_difference.new.g c.args.hooks.now c.join_all.new.hooks c.args.staking.now c.leave_all.new.staking) (sym given)
+    (stays-then g.B.Bank.marks g.B.Bank.most_steps g.H.StakingHooks.marks c.args.g.now c.leave_all.new.g c.move_difference.new.g c.args.hooks.now c.join_all.new.hooks c.join_all.new.hooks c.args.staking.now c.leave_all.new.staking c.leave_all.new.staking (Err fault) (stays-then g.B.Bank.marks g.B.Bank.most_steps g.H.StakingHooks.marks c.args.g.now c.join_all.new.g c.leave_all.new.g c.args.hooks.now c.join_all.new.hooks c.join_all.new.hooks c.args.staking.now c.join_all.new.staking c.leave_all.new.staking fine c.in_ok-join_all.ensures.stays (record { undone = c.leave_all.ensures.undone; bank = ap g.B.Bank.most_steps c.leave_all.ensures.bank; hook_marks = refl; register = c.in_ok-leave_all.ensures.register })) (record { undone = c.move_difference.ensures.undone; bank = c.move_difference.ensures.bank; hook_marks = refl; register = register-none c.leave_all.new.staking (Err fault) }))
+
+pub returns-clause-stays : goal.returns-clause-stays
+returns-clause-stays g c =
+    subst (λ k. AllStays g.B.Bank.marks g.B.Bank.most_steps g.H.StakingHooks.marks c.args.g.now c.move_difference.new.g c.args.hooks.now c.join_all.new.hooks c.args.staking.now k fine) (sym c.tell.ensures)
+    (stays-then g.B.Bank.marks g.B.Bank.most_steps g.H.StakingHooks.marks c.args.g.now c.leave_all.new.g c.move_difference.new.g c.args.hooks.now c.join_all.new.hooks c.join_all.new.hooks c.args.staking.now c.leave_all.new.staking c.leave_all.new.staking fine (stays-then g.B.Bank.marks g.B.Bank.most_steps g.H.StakingHooks.marks c.args.g.now c.join_all.new.g c.leave_all.new.g c.args.hooks.now c.join_all.new.hooks c.join_all.new.hooks c.args.staking.now c.join_all.new.staking c.leave_all.new.staking fine c.in_ok-join_all.ensures.stays (record { undone = c.leave_all.ensures.undone; bank = ap g.B.Bank.most_steps c.leave_all.ensures.bank; hook_marks = refl; register = c.in_ok-leave_all.ensures.register })) (record { undone = c.move_difference.ensures.undone; bank = c.move_difference.ensures.bank; hook_marks = refl; register = register-none c.leave_all.new.staking fine }))
