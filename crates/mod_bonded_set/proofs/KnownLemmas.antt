@@ -1,15 +1,15 @@
 -- Bonded validators that are known to be the set: nobody joins or leaves it.
-use Rattle.std.proofs.Common.{◌≡◌, ◌∙◌, ℕ, ◌+◌, ◌<◌, ◌≤◌, Bool, true, false, cond, List, [], ◌∷◌, Option, Some, None, refl, sym, ap, subst, arith, ◌&&◌, not, nat_lt, filter, if◌then◌else◌, option_map, Ordering, Less, Equal, Greater, is_lt}
+use Rattle.std.proofs.Common.{◌≡◌, ◌∙◌, ℕ, ◌+◌, ◌<◌, ◌≤◌, Bool, true, false, cond, List, [], ◌∷◌, Option, Some, None, refl, sym, ap, subst, arith, ◌&&◌, not, nat_lt, filter, ◌==◌, length, if◌then◌else◌, option_map, Ordering, Less, Equal, Greater, is_lt}
 use Rattle.std.specs.{List.{All, AllByRecursion, Sorted.IsStrictlySortedBy}, Map.{keys_of, values_of}, Ordering.ordering_reverse}
 use Rattle.std.proofs.lemmas.{Bool.Decides.nat_tests, List.Elements.{All-from_recursion, recursion_from_All}}
 use Rattle.base_types.specs.Orders.{addr_cmp}
 use Rattle.base_roles.specs.{declared.entities.Validator.Validator, Entries.at, Orders.same_addr, Staked.{Staked, is_bonded}}
 use Rattle.rule_modules.specs.Amounts.{count_where}
 use Rattle.rule_modules.specs.BondedSet.{is_able, stands_before, rank_of, is_in_bonded_set, placed, by_power, joining_of, leaving_of}
-use Rattle.mod_staking.specs.{declared.places.Standing.Standing, Listed.Validators, Places.standing_cmp, Registered.AreKeyed}
+use Rattle.mod_staking.specs.{declared.places.Standing.Standing, Listed.Validators, Places.{standing, standing_cmp}, Registered.AreKeyed}
 use Rattle.mod_staking.specs.KnownSet.{place, is_within, AreBondedTo, IsKnown, AreSet}
 use Rattle.mod_staking.proofs.ListedLemmas.{standing_total, standing_exact}
-use Rattle.mod_bonded_set.specs.Sets.{TellsSet, IsUnmoved, all_joined, all_left}
+use Rattle.mod_bonded_set.specs.Sets.{TellsSet, IsUnmoved, unmoved_last, all_joined, all_left}
 use Rattle.mod_bonded_set.proofs.{SetLemmas.{before_is, not_itself}, OrderedLemmas.first_of_two, PassedLemmas.{standing_all, bonded_count}}
 
 -- ---- how many pass a test
@@ -220,6 +220,20 @@ module _ (r most : ℕ) (s : Staked) (sorted : IsStrictlySortedBy addr_cmp (keys
               (fail_all _ vs (none_ordered r _ none)) (fail_all _ vs nobody)),
         ),
       )
+
+-- and so where the place was told only if nobody moves
+nobody : {A : Type 0} (xs : List A) → (length xs == 0) ≡ true → xs ≡ []
+nobody [] e = refl
+nobody (x ∷ xs) e = absurd (grind (arith, nat_tests))
+
+pub unmoved_if : (r most : ℕ) (s : Staked) → IsStrictlySortedBy addr_cmp (keys_of s.validators) → AreKeyed s.validators → (joining leaving : List Validator) → joining ≡ joining_of r most (values_of s.validators) → leaving ≡ leaving_of r most (values_of s.validators)
+    → (last : Option (ℕ × List ℕ)) → TellsSet r most s (option_map standing last) → IsUnmoved r most s (option_map standing (unmoved_last joining leaving last))
+unmoved_if r most s sorted keyed joining leaving j l last tells = by (length joining == 0) refl (length leaving == 0) refl
+  where
+    by : (a : Bool) → (length joining == 0) ≡ a → (b : Bool) → (length leaving == 0) ≡ b → IsUnmoved r most s (option_map standing (if a && b then last else None))
+    by true e true f = unmoved r most s sorted keyed joining leaving j l (option_map standing last) tells (nobody joining e) (nobody leaving f)
+    by true e false f = tt
+    by false e b f = tt
 
 -- what is found stays known behind a change of nobody
 pub known_after : (r most height time : ℕ) (s s1 s2 : Staked) (last : Option Standing) → IsUnmoved r most s last → s1 ≡ all_joined (joining_of r most (values_of s.validators)) s

@@ -1,5 +1,5 @@
 -- The bonded set as the beginning of the validators in the order of power, and who is within its last place.
-use Rattle.std.specs.Prelude.{◌≡◌, ℕ, ◌==◌, ◌&&◌, if◌then◌else◌, nat_le, Bool, false, List, [], ◌∷◌, Option, Some, None}
+use Rattle.std.specs.Prelude.{◌≡◌, ℕ, ◌==◌, ◌&&◌, if◌then◌else◌, nat_le, Bool, false, List, [], ◌∷◌, length, Option, Some, None}
 use Rattle.std.specs.List.{AllByRecursion}
 use Rattle.std.specs.Map.{values_of}
 use Rattle.base_types.specs.declared.status.BondStatus.TheVariants.{Bonded, Unbonding}
@@ -26,6 +26,10 @@ TellsSet reduction most s last = (o : List ℕ) (v : Validator) → validator_at
 abbrev pub IsUnmoved : ℕ → ℕ → Staked → Option Standing → Type 0
 IsUnmoved reduction most s None = Unit {0}
 IsUnmoved reduction most s (Some p) = (joining_of reduction most (values_of s.validators) ≡ []) × ((leaving_of reduction most (values_of s.validators) ≡ []) × AreBondedTo reduction p s.validators)
+
+-- the place of the set's last validator, where these are nobody
+abbrev pub unmoved_last : List Validator → List Validator → Option (ℕ × List ℕ) → Option (ℕ × List ℕ)
+unmoved_last joining leaving last = if (length joining == 0) && (length leaving == 0) then last else None
 
 -- each of these stands under its operator
 abbrev pub AllStand : Staked → List Validator → Type 0

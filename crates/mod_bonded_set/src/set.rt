@@ -1,6 +1,6 @@
 //! Who joins and who leaves the bonded set, by the lists of staking.
 
-ghost use Rattle.std.specs.Prelude.{◌≡◌, ℕ, ◌+◌, ◌*◌, ◌^◌, ◌≤◌, ◌++◌, ◌∷◌, [], not, filter, List, IfOk, IfErr, OnOk, option_map};
+ghost use Rattle.std.specs.Prelude.{◌≡◌, ℕ, ◌+◌, ◌*◌, ◌^◌, ◌≤◌, ◌++◌, ◌∷◌, [], not, filter, List, None, IfOk, IfErr, OnOk, option_map};
 ghost use Rattle.std.specs.Map.{values_of};
 ghost use Rattle.std.specs.Option.{option_copied};
 ghost use Rattle.base_table.specs.Tabled.{entry_above};
@@ -10,7 +10,7 @@ ghost use Rattle.rule_modules.specs.Amounts.{count_where};
 ghost use Rattle.rule_modules.specs.BondedSet.{power_of, joining_of, leaving_of};
 ghost use Rattle.mod_staking.specs.Calls.{IsSoundStake};
 ghost use Rattle.mod_staking.specs.Places.{standing, standing_cmp, power_place, in_order};
-ghost use Rattle.mod_bonded_set.specs.Sets.{TellsSet, IsUnmoved};
+ghost use Rattle.mod_bonded_set.specs.Sets.{TellsSet, IsUnmoved, unmoved_last};
 ghost use Rattle.mod_staking.specs.KnownSet.{place, is_within};
 
 use base_roles::{HookFault, Validator};
@@ -59,27 +59,48 @@ pub(crate) fn who_moves<L: Ledger>(
         (λ v. is_bonded v.status) (values_of staking.now.staked.validators) + 1) }
 {
     if staking.knows_set(most) {
-        return Ok(Moves {
-            joining: Vec::new(alloc),
-            leaving: Vec::new(alloc),
-            last: None,
-        });
+        return Ok(nobody(alloc));
     }
     let set = who_joins(alloc, staking, power_reduction, most, steps)?;
     let leaving = who_leaves(alloc, staking, &set.last, power_reduction, steps)?;
-    let Joining { validators, last } = set;
-    if validators.is_empty() && leaving.is_empty() {
-        return Ok(Moves {
-            joining: validators,
-            leaving,
-            last,
-        });
-    }
+    let Joining {
+        validators: joining,
+        last,
+    } = set;
+    let last = unmoved_last(joining.as_slice(), leaving.as_slice(), last);
     Ok(Moves {
-        joining: validators,
+        joining,
         leaving,
-        last: None,
+        last,
     })
+}
+
+/// Nobody joins and nobody leaves. It takes no memory.
+fn nobody(alloc: Global) -> Moves
+    ensures joining { result.joining.items ≡ [] }
+    ensures leaving { result.leaving.items ≡ [] }
+    ensures last { result.last ≡ None }
+{
+    Moves {
+        joining: Vec::new(alloc),
+        leaving: Vec::new(alloc),
+        last: None,
+    }
+}
+
+/// The place of the set's last validator, where nobody joins or leaves it.
+fn unmoved_last(
+    joining: &[Validator],
+    leaving: &[Validator],
+    last: Option<(u64, Addr)>,
+) -> Option<(u64, Addr)>
+    ensures { result ≡ unmoved_last joining.now leaving.now last }
+{
+    if joining.is_empty() && leaving.is_empty() {
+        last
+    } else {
+        None
+    }
 }
 
 /// Those of the first validators by power, of which there are at most so many, that are not bonded yet.
