@@ -7,7 +7,7 @@ use Rattle.base_roles.specs.{declared.entities.Validator.Validator, Entries.at, 
 use Rattle.rule_modules.specs.Amounts.{count_where}
 use Rattle.rule_modules.specs.BondedSet.{is_able, stands_before, rank_of, is_in_bonded_set, placed, by_power, joining_of, leaving_of}
 use Rattle.mod_staking.specs.{declared.places.Standing.Standing, Listed.Validators, Places.{standing, standing_cmp}, Registered.AreKeyed}
-use Rattle.mod_staking.specs.KnownSet.{place, is_within, AreBondedTo, IsKnown, AreSet}
+use Rattle.mod_staking.specs.KnownSet.{place, is_not_behind, is_within, AreBondedTo, IsKnown, AreSet}
 use Rattle.mod_staking.proofs.ListedLemmas.{standing_total, standing_exact}
 use Rattle.mod_bonded_set.specs.Sets.{TellsSet, IsUnmoved, unmoved_last, all_joined, all_left}
 use Rattle.mod_bonded_set.proofs.{SetLemmas.{before_is, not_itself}, OrderedLemmas.first_of_two, PassedLemmas.{standing_all, bonded_count}}
@@ -100,7 +100,7 @@ module _ (r : ℕ) (c : Standing) where
           let no : false ≡ true = sym (ap (λ o. not (is_lt o)) e) ∙ second_of_two (is_able r u) _ b in
           absurd cc
       by Equal e = ap (λ k. standing_cmp k (place r v)) (sym (standing_exact c (place r u) e)) ∙ last
-      by Greater e = standing_total.trans (place r u) c (place r v) (standing_total.antisymm c (place r u) ∙ ap ordering_reverse e) last
+      by Greater e = standing_total.trans (place r u) c (place r v) (standing_total.antisymm (place r u) c ∙ ap ordering_reverse e) last
 
 -- ---- the set
 
@@ -137,17 +137,17 @@ module _ (r most : ℕ) (es : Validators) (s : IsStrictlySortedBy addr_cmp (keys
       high m n k h e = grind (arith, nat_tests, h, e)
 
       by : (b : Bool) → is_able r v ≡ b → (d : Bool) → within r a.least v ≡ d → (b && nat_lt (rank_of r vs v) most) ≡ is_bonded v.status
-      by false e d g = sym (ap (λ b. b && _) e) ∙ w
+      by false e d g = sym (ap (λ b. b && is_not_behind (Some a.least) (place r v)) e) ∙ w
       by true e true g =
           low (rank_of r vs v) (count_where (λ u. is_bonded u.status) vs) most
           (less_pass (λ u. is_able r u && stands_before r u v) (λ u. is_bonded u.status) es o v
-          (mapped _ _ vs (λ u h p. sym h ∙ before_within r a.least u v g p) bonded_all)
+          (mapped (λ u. within r a.least u ≡ is_bonded u.status) (λ u. (is_able r u && stands_before r u v) ≡ true → is_bonded u.status ≡ true) vs (λ u h p. sym h ∙ before_within r a.least u v g p) bonded_all)
           f (ap (λ b. b && stands_before r v v) e ∙ not_itself r v) (sym w ∙ g)) count
           ∙ sym g ∙ w
       by true e false g =
           high (rank_of r vs v) (count_where (λ u. is_bonded u.status) vs) most
           (fewer_pass (λ u. is_bonded u.status) (λ u. is_able r u && stands_before r u v) vs
-          (mapped _ _ vs (λ u h p. within_before r a.least u v e g (h ∙ p)) bonded_all)) count
+          (mapped (λ u. within r a.least u ≡ is_bonded u.status) (λ u. is_bonded u.status ≡ true → (is_able r u && stands_before r u v) ≡ true) vs (λ u h p. within_before r a.least u v e g (h ∙ p)) bonded_all)) count
           ∙ sym g ∙ w
 
   all_in : AllByRecursion (λ v. is_in_bonded_set r most vs v ≡ is_bonded v.status) vs
@@ -165,10 +165,10 @@ module _ (r most : ℕ) (es : Validators) (s : IsStrictlySortedBy addr_cmp (keys
               by false e later = later e
 
   pub none-join : joining_of r most vs ≡ []
-  none-join = ap (by_power r) (none_pass (λ v. is_in_bonded_set r most vs v && not (is_bonded v.status)) vs (mapped _ _ vs (λ v h. not_both _ _ h) all_in))
+  none-join = ap (by_power r) (none_pass (λ v. is_in_bonded_set r most vs v && not (is_bonded v.status)) vs (mapped (λ v. is_in_bonded_set r most vs v ≡ is_bonded v.status) (λ v. (is_in_bonded_set r most vs v && not (is_bonded v.status)) ≡ false) vs (λ v h. not_both _ _ h) all_in))
 
   pub none-leave : leaving_of r most vs ≡ []
-  none-leave = none_pass (λ v. is_bonded v.status && not (is_in_bonded_set r most vs v)) vs (mapped _ _ vs (λ v h. not_both _ _ (sym h)) all_in)
+  none-leave = none_pass (λ v. is_bonded v.status && not (is_in_bonded_set r most vs v)) vs (mapped (λ v. is_in_bonded_set r most vs v ≡ is_bonded v.status) (λ v. (is_bonded v.status && not (is_in_bonded_set r most vs v)) ≡ false) vs (λ v h. not_both _ _ (sym h)) all_in)
 
 -- ---- where nobody moves, those within the last place are bonded, and no others
 

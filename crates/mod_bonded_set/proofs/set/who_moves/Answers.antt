@@ -29,5 +29,5 @@ returns-clause-unmoved g c =
     let s = c.args.staking.now.staked in
     let r = c.args.power_reduction in
     let most = c.args.most in
-    let told = unmoved_if r most s (sound_ascend s c.requires.sound) (sound_keyed s c.requires.sound) c.in_ok-set.field-0.0.validators.items c.in_ok-leaving.field-0.0.items c.in_ok-set.ensures.joining (c.in_ok-leaving.ensures.leaving most c.in_ok-set.ensures.set) c.in_ok-set.field-0.0.last c.in_ok-set.ensures.set in
+    let told = unmoved_if r most s (sound_ascend s c.requires.sound) (sound_keyed s c.requires.sound) c.in_ok-set.set.validators.items c.in_ok-leaving.leaving.items c.in_ok-set.ensures.joining (c.in_ok-leaving.ensures.leaving most c.in_ok-set.ensures.set) c.in_ok-set.set.last c.in_ok-set.ensures.set in
     subst (λ l. IsUnmoved r most s (option_map standing l)) (sym c.unmoved_last-last.ensures) told

@@ -101,8 +101,8 @@ tell-requires g c =
     let joined = c.in_ok-join_all.ensures.staked ∙ ap (λ l. all_joined l s) is in
     let left = c.in_ok-leave_all.ensures.staked ∙ ap (λ l. all_left v1.ctx.height (completion v1.ctx) l s1) out in
     let power = ap (λ b. b.power_reduction) (c.leave_all.ensures.register.behind ∙ c.join_all.ensures.stays.register.behind) ∙ c.requires.power in
-    subst (λ r. IsKnown r (option_map standing c.in_ok-moves.field-0.0.last) k.staked.validators) (sym power)
-    (known_after p.power_reduction p.max_validators v1.ctx.height (completion v1.ctx) s s1 k.staked (option_map standing c.in_ok-moves.field-0.0.last) c.in_ok-moves.ensures.unmoved joined left)
+    subst (λ r. IsKnown r (option_map standing c.in_ok-moves.moves.last) k.staked.validators) (sym power)
+    (known_after p.power_reduction p.max_validators v1.ctx.height (completion v1.ctx) s s1 k.staked (option_map standing c.in_ok-moves.moves.last) c.in_ok-moves.ensures.unmoved joined left)
 
 pub returns-clause-scene : goal.returns-clause-scene
 returns-clause-scene g c =
