@@ -10,3 +10,4 @@ pub mod LeadLemmas
 pub mod HearLemmas
 mod LoopLemmas
 pub mod OpenLemmas
+mod TakesLemmas

@@ -1,5 +1,5 @@
 -- What the parts of a block, and blocks, answer and leave.
-use Rattle.std.specs.Prelude.{◌≡◌, ℕ, Result, Ok, Err, ⊤}
+use Rattle.std.specs.Prelude.{◌≡◌, ℕ, Result, Ok, Err, ⊤, OnOk}
 use Rattle.base_decimals.specs.declared.over.Over.{Over}
 use Rattle.base_roles.specs.declared.faults.HookFault.{HookFault}
 use Rattle.base_roles.specs.declared.faults.HookFault.TheVariants as hook
@@ -16,7 +16,9 @@ use Rattle.rule_modules.specs.Chain.{State, begin_block, end_block}
 use Rattle.rule_machine.specs.GenesisState.{without_facts}
 use Rattle.rule_machine.specs.Listening.{Hearing, beginning_heard, ending_heard, heard_in, hearing, part_heard, txs_heard, unheard}
 use Rattle.rule_machine.specs.Machine.{Step, step, txs_applied}
-use Rattle.chain_modules.specs.Kept.{KeptState, StandsFor}
+use Rattle.chain_modules.specs.declared.modules.Modules.{Modules}
+use Rattle.chain_modules.specs.Kept.{KeptState, StandsFor, StandsWhole, AreSteady, kept_of}
+use Rattle.chain_modules.specs.Marks.{GoOn}
 
 -- the fault of a block a part of which met the limit of decimals, or wanted memory
 abbrev pub fault_of_hook : HookFault → BlockFault
@@ -29,6 +31,13 @@ fault_of_record kept.NoMemory = block.NoMemory
 -- What a step of a block answers and leaves: what stands so for the state that is due, or its excess; or memory is wanting.
 abbrev pub Leads : (KeptState → State → Type 0) → Result State Over → KeptState → Result ⊤ HookFault → Type 0
 Leads stands rule k answer = AsRuled rule answer (λ due a. stands k due) WantsMemory ExceedsAs
+
+-- What a part of a block's end leaves, whose step this is: from each state for which the modules stood what the step gives; where it
+-- succeeds the modules are steady again; and whatever the answer they go on.
+pub record TakesStep {E : Type 0} (step : State → Result State Over) (old new : Modules E) (answer : Result ⊤ HookFault) : Type 0 where
+  pub leads : (p : State) → StandsWhole (kept_of old) p → Leads StandsWhole (step p) (kept_of new) answer
+  pub steady : OnOk answer (AreSteady new)
+  pub go_on : GoOn old new
 
 -- the fault of a check that is due, or memory is wanting
 abbrev pub FaultsAs : Result ⊤ BlockFault → BlockFault → Type 0

@@ -6,7 +6,7 @@ ghost use Rattle.rule_machine.specs.Listening.{Hearing, ending_heard, maturing_h
 ghost use Rattle.chain_modules.specs.Heard.{Hears, HearsAfter};
 ghost use Rattle.chain_modules.specs.Kept.{Keeps, StandsWhole, kept_of, AreSteady, IsStakeScene, listener_of};
 ghost use Rattle.chain_modules.specs.Marks.{GoOn};
-ghost use Rattle.chain_blocks.specs.Answers.{Leads};
+ghost use Rattle.chain_blocks.specs.Answers.{Leads, TakesStep};
 
 use base_roles::{Extra, HookFault};
 use base_types::Steps;
@@ -22,15 +22,12 @@ pub(crate) fn end<E: Extra, L: Ledger>(
     steps: &mut Steps<L>,
 ) -> Result<(), HookFault>
     requires steady { AreSteady modules.old }
-    ensures leads { (p : State) → StandsWhole (kept_of modules.old) p
-        → Leads StandsWhole (end_block p) (kept_of modules.new) result }
+    ensures takes { TakesStep end_block modules.old modules.new result }
     ensures heard { (w : Hearing E.Heard) → Hears E.heard StandsWhole modules.old w
         → OnOk result (HearsAfter E.heard StandsWhole
         (ending_heard E.hears w) modules.new) }
-    ensures steady { OnOk result (AreSteady modules.new) }
 
     // Whatever the answer.
-    ensures go_on { GoOn modules.old modules.new }
     ensures listener { E.Records.marks (listener_of modules.new)
         ≡ E.Records.marks (listener_of modules.old) }
 {
@@ -77,15 +74,12 @@ fn make_set<E: Extra, L: Ledger>(
     steps: &mut Steps<L>,
 ) -> Result<(), HookFault>
     requires steady { AreSteady modules.old }
-    ensures leads { (p : State) → StandsWhole (kept_of modules.old) p
-        → Leads StandsWhole (set_step p) (kept_of modules.new) result }
+    ensures takes { TakesStep set_step modules.old modules.new result }
     ensures heard { (w : Hearing E.Heard) → Hears E.heard StandsWhole modules.old w
         → OnOk result (HearsAfter E.heard StandsWhole
         (set_heard E.hears w) modules.new) }
-    ensures steady { OnOk result (AreSteady modules.new) }
 
     // Whatever the answer.
-    ensures go_on { GoOn modules.old modules.new }
     ensures listener { E.Records.marks (listener_of modules.new)
         ≡ E.Records.marks (listener_of modules.old) }
 {
@@ -99,15 +93,12 @@ fn mature<E: Extra, L: Ledger>(
     steps: &mut Steps<L>,
 ) -> Result<(), HookFault>
     requires steady { AreSteady modules.old }
-    ensures leads { (p : State) → StandsWhole (kept_of modules.old) p
-        → Leads StandsWhole (maturing_step p) (kept_of modules.new) result }
+    ensures takes { TakesStep maturing_step modules.old modules.new result }
     ensures heard { (w : Hearing E.Heard) → Hears E.heard StandsWhole modules.old w
         → OnOk result (HearsAfter E.heard StandsWhole
         (maturing_heard E.hears w) modules.new) }
-    ensures steady { OnOk result (AreSteady modules.new) }
 
     // Whatever the answer.
-    ensures go_on { GoOn modules.old modules.new }
     ensures listener { E.Records.marks (listener_of modules.new)
         ≡ E.Records.marks (listener_of modules.old) }
 {
@@ -127,12 +118,9 @@ fn pay_unbondings<E: Extra, L: Ledger>(
     steps: &mut Steps<L>,
 ) -> Result<(), HookFault>
     requires steady { AreSteady modules.old }
-    ensures leads { (p : State) → StandsWhole (kept_of modules.old) p
-        → Leads StandsWhole (unbondings_step p) (kept_of modules.new) result }
-    ensures steady { OnOk result (AreSteady modules.new) }
+    ensures takes { TakesStep unbondings_step modules.old modules.new result }
 
     // Whatever the answer.
-    ensures go_on { GoOn modules.old modules.new }
     ensures listener { listener_of modules.new ≡ listener_of modules.old }
 {
     modules
@@ -148,12 +136,9 @@ fn end_redelegations<E: Extra, L: Ledger>(
     steps: &mut Steps<L>,
 ) -> Result<(), HookFault>
     requires steady { AreSteady modules.old }
-    ensures leads { (p : State) → StandsWhole (kept_of modules.old) p
-        → Leads StandsWhole (redelegations_step p) (kept_of modules.new) result }
-    ensures steady { OnOk result (AreSteady modules.new) }
+    ensures takes { TakesStep redelegations_step modules.old modules.new result }
 
     // Whatever the answer.
-    ensures go_on { GoOn modules.old modules.new }
     ensures listener { listener_of modules.new ≡ listener_of modules.old }
 {
     let now = modules.ground.ctx.time;

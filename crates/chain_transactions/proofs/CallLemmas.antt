@@ -25,17 +25,12 @@ use Rattle.mod_distribution.specs.Stands.{KeepsShared}
 use Rattle.chain_modules.specs.declared.modules.Modules.{Modules}
 use Rattle.chain_modules.specs.Kept.{StandsWhole, AreSteady, ground_of, hooks_hold, hooks_tell, kept_of, stakes_kept}
 use Rattle.chain_modules.{specs.Marks.GoOn, proofs.HookLemmas.held_as}
-use Rattle.chain_transactions.specs.Answers.{MessageEnds, delegation_asked}
+use Rattle.chain_transactions.specs.Answers.{MessageEnds, EndsWell, delegation_asked}
 use Rattle.chain_transactions.proofs.EndLemmas.{cancel_ends, create_ends, delegate_ends, dropped, held_first, redelegate_ends, steady_after, undelegate_ends}
 use Rattle.chain_transactions.proofs.GoLemmas.{all_on, hook_marks, hooked_on, hooks_behind, redelegating_on, register_on, shared_on, unbonding_on}
 use Rattle.chain_transactions.proofs.HeldLemmas.{commission_ends, edit_ends, fund_ends, payee_ends, reward_ends, send_ends, spend_ends, unjail_ends}
 
--- a message ends as it should, and modules go on
-pub record EndsWell {E : Type 0} (f : Effect) (old new : Modules E) (answer : Result ⊤ MessageFault) : Type 0 where
-  pub ends : (p : State) → StandsWhole (kept_of old) p → MessageEnds (f p) (kept_of new) answer
-  pub steady : OnOk answer (AreSteady new)
-  pub go_on : GoOn old new
-
+-- a message ends well where it ends as it should, and modules go on
 ends_well : {E : Type 0} (f : Effect) (old new : Modules E) (answer : Result ⊤ MessageFault) → AreSteady old → GoOn old new → ((p : State) → StandsWhole (kept_of old) p → MessageEnds (f p) (kept_of new) answer) → EndsWell f old new answer
 ends_well f old new answer s on ends = record { ends = ends; steady = steady_after f old new answer s on ends; go_on = on }
 

@@ -3,13 +3,12 @@
 ghost use Rattle.std.specs.Prelude.{◌≡◌, ◌^◌, ◌<◌, ◌≤◌, Ok, OnOk, IfErr};
 ghost use Rattle.base_roles.specs.Ground.{IsInOrder};
 ghost use Rattle.base_roles.specs.World.{modified};
-ghost use Rattle.rule_modules.specs.Chain.{State};
 ghost use Rattle.rule_modules.specs.Effects.{withdraw_reward, withdraw_commission, set_withdraw_address, fund_community_pool, community_pool_spend};
 ghost use Rattle.rule_machine.specs.Listening.{Hearing, reward_heard};
 ghost use Rattle.chain_modules.specs.Heard.{Hears, HearsAfter};
 ghost use Rattle.chain_modules.specs.Kept.{StandsWhole, kept_of, stakes_kept, AreSteady, ground_of, listener_of};
 ghost use Rattle.chain_modules.specs.Marks.{GoOn};
-ghost use Rattle.chain_transactions.specs.Answers.{MessageEnds, delegation_asked};
+ghost use Rattle.chain_transactions.specs.Answers.{EndsWell, delegation_asked};
 
 use base_decimals::Dec;
 use base_messages::{
@@ -31,16 +30,13 @@ pub(crate) fn withdraw_reward<E: Extra, L: Ledger>(
     steps: &mut Steps<L>,
 ) -> Result<(), MessageFault>
     requires steady { AreSteady modules.old }
-    ensures ends { (p : State) → StandsWhole (kept_of modules.old) p → MessageEnds
-        (withdraw_reward m.now.delegator m.now.validator p)
-        (kept_of modules.new) result }
+    ensures ends { EndsWell (withdraw_reward m.now.delegator m.now.validator)
+        modules.old modules.new result }
     ensures heard { (w : Hearing E.Heard) → Hears E.heard StandsWhole modules.old w → OnOk result
         (HearsAfter E.heard StandsWhole (reward_heard E.hears m.now.delegator
         m.now.validator w) modules.new) }
-    ensures steady { OnOk result (AreSteady modules.new) }
 
     // Whatever the answer.
-    ensures go_on { GoOn modules.old modules.new }
     ensures listener { E.Records.marks (listener_of modules.new)
         ≡ E.Records.marks (listener_of modules.old) }
 {
@@ -62,13 +58,10 @@ fn renew<E: Extra, L: Ledger>(
     requires steady { AreSteady modules.old }
     requires asked { delegation_asked m.now.delegator m.now.validator
         (stakes_kept modules.old.stakes).staked ≡ Ok (v.now, shares) }
-    ensures ends { (p : State) → StandsWhole (kept_of modules.old) p → MessageEnds
-        (withdraw_reward m.now.delegator m.now.validator p)
-        (kept_of modules.new) result }
-    ensures steady { OnOk result (AreSteady modules.new) }
+    ensures ends { EndsWell (withdraw_reward m.now.delegator m.now.validator)
+        modules.old modules.new result }
 
     // Whatever the answer.
-    ensures go_on { GoOn modules.old modules.new }
     ensures listener { listener_of modules.new ≡ listener_of modules.old }
 {
     modules
@@ -139,12 +132,9 @@ pub(crate) fn withdraw_commission<E: Extra, L: Ledger>(
     steps: &mut Steps<L>,
 ) -> Result<(), MessageFault>
     requires steady { AreSteady modules.old }
-    ensures ends { (p : State) → StandsWhole (kept_of modules.old) p
-        → MessageEnds (withdraw_commission m.now.validator p) (kept_of modules.new) result }
-    ensures steady { OnOk result (AreSteady modules.new) }
+    ensures ends { EndsWell (withdraw_commission m.now.validator) modules.old modules.new result }
 
     // Whatever the answer.
-    ensures go_on { GoOn modules.old modules.new }
     ensures listener { listener_of modules.new ≡ listener_of modules.old }
 {
     modules
@@ -162,13 +152,10 @@ pub(crate) fn set_withdraw_address<E: Extra, L: Ledger>(
     steps: &mut Steps<L>,
 ) -> Result<(), MessageFault>
     requires steady { AreSteady modules.old }
-    ensures ends { (p : State) → StandsWhole (kept_of modules.old) p → MessageEnds
-        (set_withdraw_address m.now.delegator m.now.withdraw p)
-        (kept_of modules.new) result }
-    ensures steady { OnOk result (AreSteady modules.new) }
+    ensures ends { EndsWell (set_withdraw_address m.now.delegator m.now.withdraw)
+        modules.old modules.new result }
 
     // Whatever the answer.
-    ensures go_on { GoOn modules.old modules.new }
     ensures listener { listener_of modules.new ≡ listener_of modules.old }
 {
     let params = modules.ground.ctx.params;
@@ -188,13 +175,10 @@ pub(crate) fn fund_community_pool<E: Extra, L: Ledger>(
     steps: &mut Steps<L>,
 ) -> Result<(), MessageFault>
     requires steady { AreSteady modules.old }
-    ensures ends { (p : State) → StandsWhole (kept_of modules.old) p → MessageEnds
-        (fund_community_pool m.now.depositor m.now.coins p)
-        (kept_of modules.new) result }
-    ensures steady { OnOk result (AreSteady modules.new) }
+    ensures ends { EndsWell (fund_community_pool m.now.depositor m.now.coins)
+        modules.old modules.new result }
 
     // Whatever the answer.
-    ensures go_on { GoOn modules.old modules.new }
     ensures listener { listener_of modules.new ≡ listener_of modules.old }
 {
     // It tells that they are a list of coins.
@@ -214,13 +198,10 @@ pub(crate) fn community_pool_spend<E: Extra, L: Ledger>(
     steps: &mut Steps<L>,
 ) -> Result<(), MessageFault>
     requires steady { AreSteady modules.old }
-    ensures ends { (p : State) → StandsWhole (kept_of modules.old) p → MessageEnds
-        (community_pool_spend m.now.authority m.now.recipient m.now.coins p)
-        (kept_of modules.new) result }
-    ensures steady { OnOk result (AreSteady modules.new) }
+    ensures ends { EndsWell (community_pool_spend m.now.authority m.now.recipient m.now.coins)
+        modules.old modules.new result }
 
     // Whatever the answer.
-    ensures go_on { GoOn modules.old modules.new }
     ensures listener { listener_of modules.new ≡ listener_of modules.old }
 {
     // It tells that they are a list of coins.

@@ -1,11 +1,9 @@
 //! Coins that users send.
 
-ghost use Rattle.std.specs.Prelude.{◌≡◌, OnOk};
-ghost use Rattle.rule_modules.specs.Chain.{State};
+ghost use Rattle.std.specs.Prelude.{◌≡◌};
 ghost use Rattle.rule_modules.specs.Effects.{send};
-ghost use Rattle.chain_modules.specs.Kept.{StandsWhole, kept_of, AreSteady, listener_of};
-ghost use Rattle.chain_modules.specs.Marks.{GoOn};
-ghost use Rattle.chain_transactions.specs.Answers.{MessageEnds};
+ghost use Rattle.chain_modules.specs.Kept.{AreSteady, listener_of};
+ghost use Rattle.chain_transactions.specs.Answers.{EndsWell};
 
 use base_messages::Send;
 use base_roles::{Extra, MessageFault};
@@ -22,12 +20,9 @@ pub(crate) fn send<E: Extra, L: Ledger>(
     steps: &mut Steps<L>,
 ) -> Result<(), MessageFault>
     requires steady { AreSteady modules.old }
-    ensures ends { (p : State) → StandsWhole (kept_of modules.old) p
-        → MessageEnds (send m.now.from m.now.to m.now.coins p) (kept_of modules.new) result }
-    ensures steady { OnOk result (AreSteady modules.new) }
+    ensures ends { EndsWell (send m.now.from m.now.to m.now.coins) modules.old modules.new result }
 
     // Whatever the answer.
-    ensures go_on { GoOn modules.old modules.new }
     ensures listener { listener_of modules.new ≡ listener_of modules.old }
 {
     // It tells that they are a list of coins.

@@ -1,13 +1,11 @@
 //! Messages about validators, and delegating.
 
 ghost use Rattle.std.specs.Prelude.{◌≡◌, OnOk};
-ghost use Rattle.rule_modules.specs.Chain.{State};
 ghost use Rattle.rule_modules.specs.Effects.{create_validator, edit_validator, delegate, unjail};
 ghost use Rattle.rule_machine.specs.Listening.{Hearing, creation_heard, delegation_heard};
 ghost use Rattle.chain_modules.specs.Heard.{Hears, HearsAfter};
-ghost use Rattle.chain_modules.specs.Kept.{StandsWhole, kept_of, AreSteady, listener_of};
-ghost use Rattle.chain_modules.specs.Marks.{GoOn};
-ghost use Rattle.chain_transactions.specs.Answers.{MessageEnds};
+ghost use Rattle.chain_modules.specs.Kept.{StandsWhole, AreSteady, listener_of};
+ghost use Rattle.chain_transactions.specs.Answers.{EndsWell};
 
 use base_messages::{Delegate, Unjail};
 use base_roles::{CreateValidator, EditValidator, Extra, MessageFault};
@@ -24,14 +22,11 @@ pub(crate) fn create_validator<E: Extra, L: Ledger>(
     steps: &mut Steps<L>,
 ) -> Result<(), MessageFault>
     requires steady { AreSteady modules.old }
-    ensures ends { (p : State) → StandsWhole (kept_of modules.old) p
-        → MessageEnds (create_validator m.now p) (kept_of modules.new) result }
+    ensures ends { EndsWell (create_validator m.now) modules.old modules.new result }
     ensures heard { (w : Hearing E.Heard) → Hears E.heard StandsWhole modules.old w → OnOk result
         (HearsAfter E.heard StandsWhole (creation_heard E.hears m.now w) modules.new) }
-    ensures steady { OnOk result (AreSteady modules.new) }
 
     // Whatever the answer.
-    ensures go_on { GoOn modules.old modules.new }
     ensures listener { E.Records.marks (listener_of modules.new)
         ≡ E.Records.marks (listener_of modules.old) }
 {
@@ -48,12 +43,9 @@ pub(crate) fn edit_validator<E: Extra, L: Ledger>(
     steps: &mut Steps<L>,
 ) -> Result<(), MessageFault>
     requires steady { AreSteady modules.old }
-    ensures ends { (p : State) → StandsWhole (kept_of modules.old) p
-        → MessageEnds (edit_validator m.now p) (kept_of modules.new) result }
-    ensures steady { OnOk result (AreSteady modules.new) }
+    ensures ends { EndsWell (edit_validator m.now) modules.old modules.new result }
 
     // Whatever the answer.
-    ensures go_on { GoOn modules.old modules.new }
     ensures listener { listener_of modules.new ≡ listener_of modules.old }
 {
     modules
@@ -70,16 +62,13 @@ pub(crate) fn delegate<E: Extra, L: Ledger>(
     steps: &mut Steps<L>,
 ) -> Result<(), MessageFault>
     requires steady { AreSteady modules.old }
-    ensures ends { (p : State) → StandsWhole (kept_of modules.old) p → MessageEnds
-        (delegate m.now.delegator m.now.validator m.now.amount p)
-        (kept_of modules.new) result }
+    ensures ends { EndsWell (delegate m.now.delegator m.now.validator m.now.amount)
+        modules.old modules.new result }
     ensures heard { (w : Hearing E.Heard) → Hears E.heard StandsWhole modules.old w → OnOk result
         (HearsAfter E.heard StandsWhole (delegation_heard E.hears m.now.delegator
         m.now.validator m.now.amount w) modules.new) }
-    ensures steady { OnOk result (AreSteady modules.new) }
 
     // Whatever the answer.
-    ensures go_on { GoOn modules.old modules.new }
     ensures listener { E.Records.marks (listener_of modules.new)
         ≡ E.Records.marks (listener_of modules.old) }
 {
@@ -105,12 +94,9 @@ pub(crate) fn unjail<E: Extra, L: Ledger>(
     steps: &mut Steps<L>,
 ) -> Result<(), MessageFault>
     requires steady { AreSteady modules.old }
-    ensures ends { (p : State) → StandsWhole (kept_of modules.old) p
-        → MessageEnds (unjail m.now.validator p) (kept_of modules.new) result }
-    ensures steady { OnOk result (AreSteady modules.new) }
+    ensures ends { EndsWell (unjail m.now.validator) modules.old modules.new result }
 
     // Whatever the answer.
-    ensures go_on { GoOn modules.old modules.new }
     ensures listener { listener_of modules.new ≡ listener_of modules.old }
 {
     modules.hooks.second.unjail(

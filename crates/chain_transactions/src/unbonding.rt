@@ -1,13 +1,11 @@
 //! Messages that make entries, and one that takes from them.
 
 ghost use Rattle.std.specs.Prelude.{◌≡◌, OnOk};
-ghost use Rattle.rule_modules.specs.Chain.{State};
 ghost use Rattle.rule_modules.specs.Effects.{undelegate, begin_redelegate, cancel_unbonding};
 ghost use Rattle.rule_machine.specs.Listening.{Hearing, undelegation_heard, redelegation_heard, cancellation_heard};
 ghost use Rattle.chain_modules.specs.Heard.{Hears, HearsAfter};
-ghost use Rattle.chain_modules.specs.Kept.{StandsWhole, kept_of, AreSteady, listener_of};
-ghost use Rattle.chain_modules.specs.Marks.{GoOn};
-ghost use Rattle.chain_transactions.specs.Answers.{MessageEnds};
+ghost use Rattle.chain_modules.specs.Kept.{StandsWhole, AreSteady, listener_of};
+ghost use Rattle.chain_transactions.specs.Answers.{EndsWell};
 
 use base_messages::{BeginRedelegate, CancelUnbonding, Undelegate};
 use base_roles::{Extra, MessageFault};
@@ -24,16 +22,13 @@ pub(crate) fn undelegate<E: Extra, L: Ledger>(
     steps: &mut Steps<L>,
 ) -> Result<(), MessageFault>
     requires steady { AreSteady modules.old }
-    ensures ends { (p : State) → StandsWhole (kept_of modules.old) p → MessageEnds
-        (undelegate m.now.delegator m.now.validator m.now.amount p)
-        (kept_of modules.new) result }
+    ensures ends { EndsWell (undelegate m.now.delegator m.now.validator m.now.amount)
+        modules.old modules.new result }
     ensures heard { (w : Hearing E.Heard) → Hears E.heard StandsWhole modules.old w → OnOk result
         (HearsAfter E.heard StandsWhole (undelegation_heard E.hears m.now.delegator
         m.now.validator m.now.amount w) modules.new) }
-    ensures steady { OnOk result (AreSteady modules.new) }
 
     // Whatever the answer.
-    ensures go_on { GoOn modules.old modules.new }
     ensures listener { E.Records.marks (listener_of modules.new)
         ≡ E.Records.marks (listener_of modules.old) }
 {
@@ -61,16 +56,13 @@ pub(crate) fn begin_redelegate<E: Extra, L: Ledger>(
     steps: &mut Steps<L>,
 ) -> Result<(), MessageFault>
     requires steady { AreSteady modules.old }
-    ensures ends { (p : State) → StandsWhole (kept_of modules.old) p → MessageEnds
-        (begin_redelegate m.now.delegator m.now.source m.now.target m.now.amount p)
-        (kept_of modules.new) result }
+    ensures ends { EndsWell (begin_redelegate m.now.delegator m.now.source m.now.target
+        m.now.amount) modules.old modules.new result }
     ensures heard { (w : Hearing E.Heard) → Hears E.heard StandsWhole modules.old w → OnOk result
         (HearsAfter E.heard StandsWhole (redelegation_heard E.hears m.now.delegator
         m.now.source m.now.target m.now.amount w) modules.new) }
-    ensures steady { OnOk result (AreSteady modules.new) }
 
     // Whatever the answer.
-    ensures go_on { GoOn modules.old modules.new }
     ensures listener { E.Records.marks (listener_of modules.new)
         ≡ E.Records.marks (listener_of modules.old) }
 {
@@ -95,16 +87,13 @@ pub(crate) fn cancel_unbonding<E: Extra, L: Ledger>(
     steps: &mut Steps<L>,
 ) -> Result<(), MessageFault>
     requires steady { AreSteady modules.old }
-    ensures ends { (p : State) → StandsWhole (kept_of modules.old) p → MessageEnds
-        (cancel_unbonding m.now.delegator m.now.validator m.now.amount m.now.creation_height p)
-        (kept_of modules.new) result }
+    ensures ends { EndsWell (cancel_unbonding m.now.delegator m.now.validator m.now.amount
+        m.now.creation_height) modules.old modules.new result }
     ensures heard { (w : Hearing E.Heard) → Hears E.heard StandsWhole modules.old w → OnOk result
         (HearsAfter E.heard StandsWhole (cancellation_heard E.hears m.now.delegator
         m.now.validator m.now.amount m.now.creation_height w) modules.new) }
-    ensures steady { OnOk result (AreSteady modules.new) }
 
     // Whatever the answer.
-    ensures go_on { GoOn modules.old modules.new }
     ensures listener { E.Records.marks (listener_of modules.new)
         ≡ E.Records.marks (listener_of modules.old) }
 {

@@ -1,6 +1,7 @@
 pub mod DueLemmas
 pub mod JoinLemmas
 pub mod JoinedLemmas
+pub mod KnownLemmas
 pub mod LeftLemmas
 pub mod LoopLemmas
 pub mod MatureLemmas

@@ -10,7 +10,8 @@ use Rattle.mod_staking.specs.{declared.places.Standing.Standing, Listed.Validato
 use Rattle.mod_staking.specs.{Places.{standing_cmp, power_place, bonded_place, in_order, with_if}, Registered.AreKeyed}
 use Rattle.mod_staking.proofs.ListedLemmas.{standing_total, power_placed}
 use Rattle.mod_staking.proofs.PlaceLemmas.{in_order-ascend, stands_listed}
-use Rattle.mod_bonded_set.specs.Sets.{place, last_place, is_not_behind, is_within}
+use Rattle.mod_bonded_set.specs.Sets.{last_place}
+use Rattle.mod_staking.specs.KnownSet.{place, is_not_behind, is_within}
 use Rattle.mod_bonded_set.proofs.SetLemmas.{by_place, Apart, AllApart, by_place-placed, by_power-filter, rank_is, before_count, Counted, filter_is_take, not_behind_is}
 
 -- ---- operators that ascend differ
@@ -67,7 +68,7 @@ filter_twice a b c (v ∷ vs) h = ap (λ d. cond ((d && b v) && c v) (v ∷ filt
     by true ih = ap (λ l. cond (c v) (v ∷ l) l) ih
     by false ih = ih
 
-first_of_two : (a b : Bool) → (a && b) ≡ true → a ≡ true
+pub first_of_two : (a b : Bool) → (a && b) ≡ true → a ≡ true
 first_of_two true b e = refl
 first_of_two false b e = absurd cc
 

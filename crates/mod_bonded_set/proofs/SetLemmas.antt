@@ -10,7 +10,8 @@ use Rattle.rule_modules.specs.BondedSet.{power_of, is_able, stands_before, rank_
 use Rattle.mod_staking.specs.{declared.places.Standing.Standing, Listed.Validators}
 use Rattle.mod_staking.specs.Places.{standing_cmp, power_place, in_order, with_if}
 use Rattle.mod_staking.proofs.ListedLemmas.{standing_total, standing_exact}
-use Rattle.mod_bonded_set.specs.Sets.{place, last_place, is_not_behind}
+use Rattle.mod_bonded_set.specs.Sets.{last_place}
+use Rattle.mod_staking.specs.KnownSet.{place, is_not_behind}
 
 -- ---- numbers and tests
 
@@ -245,7 +246,7 @@ module _ (r : ℕ) where
   abbrev pub before_count : Validator → List (Standing × Validator) → ℕ
   before_count v es = count_where (λ u. stands_before r u v) (values_of es)
 
-  not_itself : (v : Validator) → stands_before r v v ≡ false
+  pub not_itself : (v : Validator) → stands_before r v v ≡ false
   not_itself v = before_is r v v ∙ on (standing_cmp (place r v) (place r v)) refl
     where
       on : (o : Ordering) → standing_cmp (place r v) (place r v) ≡ o → is_lt o ≡ false

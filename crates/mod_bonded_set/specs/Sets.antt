@@ -1,6 +1,5 @@
 -- The bonded set as the beginning of the validators in the order of power, and who is within its last place.
-use Rattle.std.specs.Prelude.{◌≡◌, ℕ, ◌==◌, ◌&&◌, if◌then◌else◌, not, nat_le, Bool, false, List, [], ◌∷◌, Option, Some, None}
-use Rattle.std.specs.Ordering.{is_lt}
+use Rattle.std.specs.Prelude.{◌≡◌, ℕ, ◌==◌, ◌&&◌, if◌then◌else◌, nat_le, Bool, false, List, [], ◌∷◌, length, Option, Some, None}
 use Rattle.std.specs.List.{AllByRecursion}
 use Rattle.std.specs.Map.{values_of}
 use Rattle.base_types.specs.declared.status.BondStatus.TheVariants.{Bonded, Unbonding}
@@ -8,14 +7,10 @@ use Rattle.base_roles.specs.declared.entities.Validator.{Validator}
 use Rattle.base_roles.specs.Staked.{Staked, validator_at, put_validator}
 use Rattle.base_roles.specs.declared.facts.Fact.TheVariants as fact
 use Rattle.base_roles.specs.World.{View, noted}
-use Rattle.rule_modules.specs.BondedSet.{power_of, is_able, is_in_bonded_set}
+use Rattle.rule_modules.specs.BondedSet.{is_in_bonded_set, joining_of, leaving_of}
 use Rattle.rule_modules.specs.Stakes.{is_unbonding}
 use Rattle.mod_staking.specs.declared.places.Standing.{Standing}
-use Rattle.mod_staking.specs.Places.{standing, standing_cmp}
-
--- the place of a validator by power, whether or not it has one
-abbrev pub place : ℕ → Validator → Standing
-place reduction v = standing (power_of reduction v, v.operator)
+use Rattle.mod_staking.specs.KnownSet.{is_within, AreBondedTo}
 
 -- the place of the last of these
 abbrev pub last_place : List (Standing × Validator) → Option Standing
@@ -23,18 +18,18 @@ last_place [] = None
 last_place (e ∷ []) = Some e.0
 last_place (e ∷ x ∷ es) = last_place (x ∷ es)
 
--- a place is not behind the last one
-abbrev pub is_not_behind : Option Standing → Standing → Bool
-is_not_behind None k = false
-is_not_behind (Some p) k = not (is_lt (standing_cmp p k))
-
--- a validator is able, and its place is not behind the last one
-abbrev pub is_within : ℕ → Option Standing → Validator → Bool
-is_within reduction last v = is_able reduction v && is_not_behind last (place reduction v)
-
 -- Of the validators that stand, those that are within this last place are the bonded set of at most `most`.
 abbrev pub TellsSet : ℕ → ℕ → Staked → Option Standing → Type 0
 TellsSet reduction most s last = (o : List ℕ) (v : Validator) → validator_at s o ≡ Some v → is_within reduction last v ≡ is_in_bonded_set reduction most (values_of s.validators) v
+
+-- Where a place is told, nobody joins or leaves the set of at most `most`, and those within that place are bonded and no others.
+abbrev pub IsUnmoved : ℕ → ℕ → Staked → Option Standing → Type 0
+IsUnmoved reduction most s None = Unit {0}
+IsUnmoved reduction most s (Some p) = (joining_of reduction most (values_of s.validators) ≡ []) × ((leaving_of reduction most (values_of s.validators) ≡ []) × AreBondedTo reduction p s.validators)
+
+-- the place of the set's last validator, where these are nobody
+abbrev pub unmoved_last : List Validator → List Validator → Option (ℕ × List ℕ) → Option (ℕ × List ℕ)
+unmoved_last joining leaving last = if (length joining == 0) && (length leaving == 0) then last else None
 
 -- each of these stands under its operator
 abbrev pub AllStand : Staked → List Validator → Type 0

@@ -4,7 +4,7 @@ ghost use Rattle.std.specs.Prelude.{◌≡◌, ◌+◌, ◌*◌, ◌≤◌, ◌=
 ghost use Rattle.std.specs.Map.{values_of};
 ghost use Rattle.base_roles.specs.declared.entities.Validator.{Validator};
 ghost use Rattle.base_roles.specs.declared.faults.HookFault.TheVariants.{NoMemory};
-ghost use Rattle.base_roles.specs.Ground.{seen, CanBeUndone};
+ghost use Rattle.base_roles.specs.Ground.{seen};
 ghost use Rattle.base_roles.specs.Hooks.{Stand};
 ghost use Rattle.base_roles.specs.Log.{Log};
 ghost use Rattle.base_roles.specs.Staked.{validator_at, lists_of};
@@ -12,9 +12,9 @@ ghost use Rattle.rule_modules.specs.Amounts.{count_where};
 ghost use Rattle.rule_modules.specs.Answers.{Leaves};
 ghost use Rattle.rule_modules.specs.BondedSet.{matured, validators_matured};
 ghost use Rattle.mod_staking.specs.Calls.{IsSoundStake, behind_log};
-ghost use Rattle.mod_staking.specs.Registered.{behind};
 ghost use Rattle.mod_staking.specs.Scenes.{IsHooked, GoesOn, KeepsAccounts};
 ghost use Rattle.mod_staking.specs.Places.{time_cmp, maturing_place, in_order};
+ghost use Rattle.mod_bonded_set.specs.Calls.{AllStays};
 ghost use Rattle.mod_bonded_set.specs.Sets.{is_due, due_in, goes_at};
 
 use base_roles::{Bank, Ground, HookFault, StakingHooks, ValidatorView};
@@ -51,12 +51,8 @@ pub fn mature_validators<B: Bank, H: StakingHooks, L: Ledger>(
         (seen B.holdings g.old) (seen B.holdings g.new) result }
 
     // Whatever the answer.
-    ensures undone { CanBeUndone B.marks g.old g.new }
-    ensures bank { B.most_steps g.new.bank ≡ B.most_steps g.old.bank }
-    ensures hook_marks { H.marks hooks.new ≡ H.marks hooks.old }
-    ensures behind { behind staking.new ≡ behind staking.old }
-    ensures spent { staking.old.spent ≡ true → staking.new.spent ≡ true }
-    ensures unspent { OnOk result (staking.new.spent ≡ staking.old.spent) }
+    ensures stays { AllStays B.marks B.most_steps H.marks
+        g.old g.new hooks.old hooks.new staking.old staking.new result }
     ensures cost { count_where (goes_at g.old.ctx.time)
         (values_of staking.old.staked.validators) ≡ 0 → steps.new ≤ steps.old + 2 + 12
         * count_where (is_due g.old.ctx.time) (values_of staking.old.staked.validators) }
@@ -95,12 +91,8 @@ fn mature_all<B: Bank, H: StakingHooks, L: Ledger>(
         (seen B.holdings g.old) (seen B.holdings g.new) result }
 
     // Whatever the answer.
-    ensures undone { CanBeUndone B.marks g.old g.new }
-    ensures bank { B.most_steps g.new.bank ≡ B.most_steps g.old.bank }
-    ensures hook_marks { H.marks hooks.new ≡ H.marks hooks.old }
-    ensures behind { behind staking.new ≡ behind staking.old }
-    ensures spent { staking.old.spent ≡ true → staking.new.spent ≡ true }
-    ensures unspent { OnOk result (staking.new.spent ≡ staking.old.spent) }
+    ensures stays { AllStays B.marks B.most_steps H.marks
+        g.old g.new hooks.old hooks.new staking.old staking.new result }
     ensures cost { count_where (goes_at g.old.ctx.time)
         (values_of staking.old.staked.validators) ≡ 0
         → steps.new ≤ steps.old + 10 * length due.now }

@@ -1,6 +1,6 @@
 //! Who joins and who leaves the bonded set, by the lists of staking.
 
-ghost use Rattle.std.specs.Prelude.{◌≡◌, ℕ, ◌+◌, ◌*◌, ◌^◌, ◌≤◌, ◌++◌, ◌∷◌, [], not, filter, List, IfOk, IfErr, OnOk, option_map};
+ghost use Rattle.std.specs.Prelude.{◌≡◌, ℕ, ◌+◌, ◌*◌, ◌^◌, ◌≤◌, ◌++◌, ◌∷◌, [], not, filter, List, None, IfOk, IfErr, OnOk, option_map};
 ghost use Rattle.std.specs.Map.{values_of};
 ghost use Rattle.std.specs.Option.{option_copied};
 ghost use Rattle.base_table.specs.Tabled.{entry_above};
@@ -10,7 +10,8 @@ ghost use Rattle.rule_modules.specs.Amounts.{count_where};
 ghost use Rattle.rule_modules.specs.BondedSet.{power_of, joining_of, leaving_of};
 ghost use Rattle.mod_staking.specs.Calls.{IsSoundStake};
 ghost use Rattle.mod_staking.specs.Places.{standing, standing_cmp, power_place, in_order};
-ghost use Rattle.mod_bonded_set.specs.Sets.{place, is_within, TellsSet};
+ghost use Rattle.mod_bonded_set.specs.Sets.{TellsSet, IsUnmoved, unmoved_last};
+ghost use Rattle.mod_staking.specs.KnownSet.{place, is_within};
 
 use base_roles::{HookFault, Validator};
 use base_types::{Addr, BondStatus, Steps};
@@ -19,16 +20,92 @@ use std::alloc::Global;
 use std::cmp::Ordering;
 use std::sync::ledger::Ledger;
 
+/// Who joins the bonded set, in its order, who leaves it, by rising operator, and, where that was found to be
+/// nobody, the place of its last validator.
+#[derive(Drop)]
+pub(crate) struct Moves {
+    pub joining: Vec<Validator>,
+    pub leaving: Vec<Validator>,
+    pub last: Option<(u64, Addr)>,
+}
+
 /// Who joins the bonded set, in its order, and the place of its last validator, where it has one.
 #[derive(Drop)]
-pub(crate) struct Joining {
-    pub validators: Vec<Validator>,
-    pub last: Option<(u64, Addr)>,
+struct Joining {
+    validators: Vec<Validator>,
+    last: Option<(u64, Addr)>,
+}
+
+/// Who joins and who leaves the bonded set of at most so many. Nobody is looked for where staking knows the bonded
+/// ones to be the set. The only error is `NoMemory`.
+pub(crate) fn who_moves<L: Ledger>(
+    alloc: Global,
+    staking: &Staking,
+    power_reduction: u64,
+    most: u64,
+    steps: &mut Steps<L>,
+) -> Result<Moves, HookFault>
+    requires sound { IsSoundStake staking.now.staked }
+    requires power { staking.now.power_reduction ≡ power_reduction }
+    requires some { 1 ≤ power_reduction }
+    ensures joining { IfOk result (λ m. m.joining.items
+        ≡ joining_of power_reduction most (values_of staking.now.staked.validators)) }
+    ensures leaving { IfOk result (λ m. m.leaving.items
+        ≡ leaving_of power_reduction most (values_of staking.now.staked.validators)) }
+    ensures unmoved { IfOk result (λ m.
+        IsUnmoved power_reduction most staking.now.staked (option_map standing m.last)) }
+    ensures fault { IfErr result (λ fault. fault ≡ NoMemory) }
+    ensures cost { steps.new ≤ steps.old + 2 * (most + count_where
+        (λ v. is_bonded v.status) (values_of staking.now.staked.validators) + 1) }
+{
+    if staking.knows_set(most) {
+        return Ok(nobody(alloc));
+    }
+    let set = who_joins(alloc, staking, power_reduction, most, steps)?;
+    let leaving = who_leaves(alloc, staking, &set.last, power_reduction, steps)?;
+    let Joining {
+        validators: joining,
+        last,
+    } = set;
+    let last = unmoved_last(joining.as_slice(), leaving.as_slice(), last);
+    Ok(Moves {
+        joining,
+        leaving,
+        last,
+    })
+}
+
+/// Nobody joins and nobody leaves. It takes no memory.
+fn nobody(alloc: Global) -> Moves
+    ensures joining { result.joining.items ≡ [] }
+    ensures leaving { result.leaving.items ≡ [] }
+    ensures last { result.last ≡ None }
+{
+    Moves {
+        joining: Vec::new(alloc),
+        leaving: Vec::new(alloc),
+        last: None,
+    }
+}
+
+/// The place of the set's last validator, where nobody joins or leaves it.
+fn unmoved_last(
+    joining: &[Validator],
+    leaving: &[Validator],
+    last: Option<(u64, Addr)>,
+) -> Option<(u64, Addr)>
+    ensures { result ≡ unmoved_last joining.now leaving.now last }
+{
+    if joining.is_empty() && leaving.is_empty() {
+        last
+    } else {
+        None
+    }
 }
 
 /// Those of the first validators by power, of which there are at most so many, that are not bonded yet.
 /// The only error is `NoMemory`.
-pub(crate) fn who_joins<L: Ledger>(
+fn who_joins<L: Ledger>(
     alloc: Global,
     staking: &Staking,
     power_reduction: u64,
@@ -102,7 +179,7 @@ fn next_behind<'a, L: Ledger>(
 
 /// Those of the bonded validators, by operator, that are not within the last place of the set. The only error
 /// is `NoMemory`.
-pub(crate) fn who_leaves<L: Ledger>(
+fn who_leaves<L: Ledger>(
     alloc: Global,
     staking: &Staking,
     last: &Option<(u64, Addr)>,

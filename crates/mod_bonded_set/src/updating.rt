@@ -1,6 +1,6 @@
 //! The bonded set made anew.
 
-ghost use Rattle.std.specs.Prelude.{◌≡◌, ◌+◌, ◌*◌, ◌^◌, ◌≤◌, true, length, OnOk, IfErr};
+ghost use Rattle.std.specs.Prelude.{◌≡◌, ◌+◌, ◌*◌, ◌^◌, ◌≤◌, true, length, OnOk, IfErr, option_map};
 ghost use Rattle.std.specs.List.{AllByRecursion};
 ghost use Rattle.std.specs.Map.{values_of};
 ghost use Rattle.base_roles.specs.declared.faults.HookFault.TheVariants.{NoMemory};
@@ -13,17 +13,19 @@ ghost use Rattle.rule_modules.specs.Amounts.{count_where};
 ghost use Rattle.rule_modules.specs.Answers.{Leaves};
 ghost use Rattle.rule_modules.specs.BondedSet.{HaveOwnOperators, joined_set, set_updated, tokens_of};
 ghost use Rattle.mod_staking.specs.Calls.{IsSoundStake, behind_log};
-ghost use Rattle.mod_staking.specs.Registered.{behind};
+ghost use Rattle.mod_staking.specs.KnownSet.{IsKnown};
+ghost use Rattle.mod_staking.specs.Places.{standing};
 ghost use Rattle.mod_staking.specs.Scenes.{IsHooked, IsScene, KeepsAccounts};
 ghost use Rattle.rule_modules.specs.Unbondings.{completion};
+ghost use Rattle.mod_bonded_set.specs.Calls.{AllStays, RegisterStays};
 ghost use Rattle.mod_bonded_set.specs.Sets.{AllStand, all_joined, all_left, all_leavings_noted};
 
 use crate::joining::join;
 use crate::leaving::leave;
 use crate::paying::move_difference;
-use crate::set::{who_joins, who_leaves};
+use crate::set::who_moves;
 use base_roles::{Bank, Ground, HookFault, StakingHooks, Validator};
-use base_types::Steps;
+use base_types::{Addr, Steps};
 use mod_staking::Staking;
 use std::alloc::Global;
 use std::sync::ledger::Ledger;
@@ -56,12 +58,8 @@ pub fn update<B: Bank, H: StakingHooks, L: Ledger>(
         (seen B.holdings g.new) staking.new.staked) }
 
     // Whatever the answer.
-    ensures undone { CanBeUndone B.marks g.old g.new }
-    ensures bank { B.most_steps g.new.bank ≡ B.most_steps g.old.bank }
-    ensures hook_marks { H.marks hooks.new ≡ H.marks hooks.old }
-    ensures behind { behind staking.new ≡ behind staking.old }
-    ensures spent { staking.old.spent ≡ true → staking.new.spent ≡ true }
-    ensures unspent { OnOk result (staking.new.spent ≡ staking.old.spent) }
+    ensures stays { AllStays B.marks B.most_steps H.marks
+        g.old g.new hooks.old hooks.new staking.old staking.new result }
     ensures cost { (h : H.Held) → H.holds hooks.old h → H.tells.most_steps h ≤ 4
         → B.most_steps g.old.bank ≤ 8 → steps.new ≤ steps.old + 24
         * (g.old.ctx.params.max_validators
@@ -69,16 +67,27 @@ pub fn update<B: Bank, H: StakingHooks, L: Ledger>(
 {
     let reduction = g.ctx.params.power_reduction;
     let most = g.ctx.params.max_validators;
-    let set = who_joins(alloc, staking, reduction, most, steps)?;
-    let outside = who_leaves(alloc, staking, &set.last, reduction, steps)?;
-    let joining = set.validators.as_slice();
-    let leaving = outside.as_slice();
+    let moves = who_moves(alloc, staking, reduction, most, steps)?;
+    let joining = moves.joining.as_slice();
+    let leaving = moves.leaving.as_slice();
     join_all(alloc, g, hooks, staking, joining, steps)?;
     leave_all(g, staking, leaving, steps)?;
     let joined = tokens_of(joining);
     let left = tokens_of(leaving);
     move_difference(alloc, g, joined, left, steps)?;
+    tell(staking, &moves.last);
     Ok(())
+}
+
+/// Tells staking the place down to which validators are bonded and behind which none is, where one was found.
+fn tell(staking: &mut Staking, last: &Option<(u64, Addr)>)
+    requires { IsKnown staking.old.power_reduction (option_map standing last.now)
+        staking.old.staked.validators }
+    ensures { staking.new ≡ staking.old }
+{
+    if let Some(last) = last {
+        staking.know_set(*last);
+    }
 }
 
 /// Validators join the bonded set one after another.
@@ -110,12 +119,8 @@ fn join_all<B: Bank, H: StakingHooks, L: Ledger>(
         (seen B.holdings g.old) (seen B.holdings g.new) result }
 
     // Whatever the answer.
-    ensures undone { CanBeUndone B.marks g.old g.new }
-    ensures bank { B.most_steps g.new.bank ≡ B.most_steps g.old.bank }
-    ensures hook_marks { H.marks hooks.new ≡ H.marks hooks.old }
-    ensures behind { behind staking.new ≡ behind staking.old }
-    ensures spent { staking.old.spent ≡ true → staking.new.spent ≡ true }
-    ensures unspent { OnOk result (staking.new.spent ≡ staking.old.spent) }
+    ensures stays { AllStays B.marks B.most_steps H.marks
+        g.old g.new hooks.old hooks.new staking.old staking.new result }
     ensures cost { (h : H.Held) → H.holds hooks.old h
         → steps.new ≤ steps.old + length joining.now * (9 + H.tells.most_steps h) }
 {
@@ -147,9 +152,7 @@ fn leave_all<B: Bank, L: Ledger>(
 
     // Whatever the answer.
     ensures undone { CanBeUndone B.marks g.old g.new }
-    ensures behind { behind staking.new ≡ behind staking.old }
-    ensures spent { staking.old.spent ≡ true → staking.new.spent ≡ true }
-    ensures unspent { OnOk result (staking.new.spent ≡ staking.old.spent) }
+    ensures register { RegisterStays staking.old staking.new result }
     ensures cost { steps.new ≤ steps.old + 9 * length leaving.now }
 {
     for v in leaving {

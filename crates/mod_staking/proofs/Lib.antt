@@ -5,6 +5,7 @@ pub mod EditLemmas
 pub mod GroundLemmas
 pub mod IndexLemmas
 pub mod ItemLemmas
+pub mod KnownLemmas
 pub mod LeftLemmas
 pub mod ListLemmas
 pub mod ListedLemmas

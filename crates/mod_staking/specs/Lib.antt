@@ -1,6 +1,7 @@
 pub mod Calls
 pub mod Items
 pub mod Joint
+pub mod KnownSet
 pub mod Listed
 pub mod Places
 pub mod Registered

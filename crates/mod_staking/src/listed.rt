@@ -1,6 +1,6 @@
 //! Validators by operator, with the lists that are kept beside them.
 
-ghost use Rattle.std.specs.Prelude.{◌≡◌, ◌≤◌, ◌+◌, [], ◌<◌, Option, Some, None, length, option_map, is_some, OnOk, OnErr, if◌then◌else◌};
+ghost use Rattle.std.specs.Prelude.{◌≡◌, ◌≤◌, ◌+◌, [], ◌<◌, Option, Some, None, length, option_map, is_some, OnOk, OnErr, if◌then◌else◌, true};
 ghost use Rattle.std.specs.List.Sorted.{IsStrictlySortedBy};
 ghost use Rattle.std.specs.Map.{keys_of};
 ghost use Rattle.std.specs.Option.{option_copied};
@@ -10,14 +10,16 @@ ghost use Rattle.base_roles.specs.declared.entities.Validator.{Validator};
 ghost use Rattle.base_roles.specs.Entries.{at, with, without};
 ghost use Rattle.mod_staking.specs.Listed.{new_listed, having, with_mark, settled_now, with_or_without, IsGoneBack, IsForgotten};
 ghost use Rattle.mod_staking.specs.Places.{standing_cmp, time_cmp, power_place, bonded_place, maturing_place, in_order, AreListed, IsListed, AreMoved, HaveMarksOf};
+ghost use Rattle.mod_staking.specs.KnownSet.{AreBondedTo, AreSet, is_within, is_as_told, known_with};
 ghost use Rattle.mod_staking.specs.Registered.{AreKeyed};
 
 use crate::lists::Lists;
-use crate::places::{Bonded, ByPower, Listing, Maturing, Standing};
+use crate::places::{Bonded, ByPower, Listing, Maturing, Standing, power_of};
 use base_roles::Validator;
 use base_table::{Table, TableFault};
-use base_types::{Addr, Moment, Steps};
+use base_types::{Addr, BondStatus, Moment, Steps};
 use std::alloc::Global;
+use std::cmp::Ordering;
 use std::marker::Model;
 use std::sync::ledger::Ledger;
 
@@ -28,11 +30,14 @@ pub(crate) struct ListedValidators {
     records: Table<Addr, Validator>,
     lists: Lists,
     power_reduction: u64,
+    /// The place by power down to which validators are bonded and behind which none is, while it is known.
+    least: Option<Standing>,
 }
 
 impl Model for ListedValidators {
     ghost use Rattle.mod_staking.specs.Listed.{Listed};
     ghost use Rattle.mod_staking.specs.Places.{AreListed};
+    ghost use Rattle.mod_staking.specs.KnownSet.{IsKnown};
 
     ghost Value = { Listed };
 
@@ -43,7 +48,8 @@ impl Model for ListedValidators {
       power_reduction = l.power_reduction;
     } };
 
-    ghost invariant = { λ l. AreListed l.power_reduction l.records l.lists };
+    ghost invariant = { λ l. AreListed l.power_reduction l.records l.lists
+        × IsKnown l.power_reduction l.least l.records.entries };
 }
 
 impl ListedValidators {
@@ -56,6 +62,7 @@ impl ListedValidators {
             records: Table::new(alloc),
             lists: Lists::new(alloc),
             power_reduction,
+            least: None,
         }
     }
 
@@ -161,6 +168,25 @@ impl ListedValidators {
         )
     }
 
+    /// Whether so many are bonded, those down to a place by power that is known and no others.
+    pub(crate) fn knows_set(&self, most: u64) -> bool
+        ensures { result ≡ true → AreSet self.now.power_reduction most self.now.entries }
+    {
+        match self.least {
+            Some(_) => self.lists.bonded.len() as u64 == most,
+            None => false,
+        }
+    }
+
+    /// Knows from now on that those down to this place by power are bonded, and no others, until a validator
+    /// stands otherwise, or a mark is gone back to.
+    pub(crate) fn know_set(&mut self, least: Standing)
+        requires { AreBondedTo self.old.power_reduction least self.old.entries }
+        ensures { self.new ≡ self.old }
+    {
+        self.least = Some(least);
+    }
+
     /// Puts a validator under its operator. Where memory is wanting, all is as it was.
     pub(crate) fn put<L: Ledger>(
         &mut self,
@@ -173,6 +199,7 @@ impl ListedValidators {
         ensures err { OnErr result (self.new ≡ self.old) }
         ensures cost { steps.new ≤ steps.old + 8 }
     {
+        self.least = known_with(&self.least, v, self.power_reduction);
         write(
             &mut self.records,
             &mut self.lists,
@@ -225,6 +252,7 @@ impl ListedValidators {
         requires some { 0 < length self.old.marks }
         ensures { IsGoneBack self.old self.new }
     {
+        self.least = None;
         self.records.back();
         self.lists.back();
     }
@@ -246,6 +274,47 @@ impl ListedValidators {
         self.records.settle();
         self.lists.settle();
     }
+}
+
+/// The place that is known once a validator stands as it does now.
+fn known_with(least: &Option<Standing>, v: &Validator, power_reduction: u64) -> Option<Standing>
+    requires { 1 ≤ power_reduction }
+    ensures { result ≡ known_with power_reduction least.now v.now }
+{
+    match least {
+        Some(place) => {
+            if is_as_told(place, v, power_reduction) {
+                Some(*place)
+            } else {
+                None
+            }
+        }
+        None => None,
+    }
+}
+
+/// Whether a validator is bonded where it is within this place by power, and else is not.
+fn is_as_told(least: &Standing, v: &Validator, power_reduction: u64) -> bool
+    requires { 1 ≤ power_reduction }
+    ensures { result ≡ is_as_told power_reduction least.now v.now }
+{
+    match v.status {
+        BondStatus::Bonded => is_within(least, v, power_reduction),
+        BondStatus::Unbonding | BondStatus::Unbonded => !is_within(least, v, power_reduction),
+    }
+}
+
+/// Whether a validator can be in the set, and is not behind this place.
+fn is_within(least: &Standing, v: &Validator, power_reduction: u64) -> bool
+    requires { 1 ≤ power_reduction }
+    ensures { result ≡ is_within power_reduction (Some least.now) v.now }
+{
+    let power = power_of(v, power_reduction);
+    let place = Standing {
+        power,
+        operator: v.operator,
+    };
+    !v.jailed && 0 < power && least.cmp(&place) != Ordering::Less
 }
 
 /// The validator of the first place behind `after` in a list, or of the first of all for None.

@@ -136,7 +136,7 @@ impl Listing for Maturing {
 }
 
 /// The power of a validator: its tokens by those of one unit of power, cut (`Validator.ConsensusPower`).
-fn power_of(v: &Validator, power_reduction: u64) -> u128
+pub(crate) fn power_of(v: &Validator, power_reduction: u64) -> u128
     requires { 1 ≤ power_reduction }
     ensures { result ≡ power_of power_reduction v.now }
 {

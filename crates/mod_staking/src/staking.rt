@@ -12,6 +12,7 @@ ghost use Rattle.base_roles.specs.Orders.{pair_cmp};
 ghost use Rattle.base_roles.specs.Staked.{validator_at, validator_by_cons, delegation, put_validator};
 ghost use Rattle.rule_modules.specs.Stakes.{without_validator, put_delegation, without_shares};
 ghost use Rattle.mod_staking.specs.Places.{standing, standing_cmp, time_cmp, power_place, bonded_place, maturing_place, in_order};
+ghost use Rattle.mod_staking.specs.KnownSet.{AreBondedTo, AreSet};
 ghost use Rattle.mod_staking.specs.Registered.{new_register, holding, spent_now, operator_by_cons, Stands};
 
 use crate::index::{put_both, take_both};
@@ -128,6 +129,28 @@ impl Staking {
         ensures cost { steps.new ≤ steps.old + 2 }
     {
         self.validators.next_maturing(after.as_ref(), steps)
+    }
+
+    /// Whether so many validators are bonded, those down to some place by power and no others, as it was told by
+    /// [`know_set`](Staking::know_set) and no change since can have made otherwise. It takes no step.
+    pub fn knows_set(&self, most: u64) -> bool
+        ensures { result ≡ true
+            → AreSet self.now.power_reduction most self.now.staked.validators }
+    {
+        self.validators.knows_set(most)
+    }
+
+    /// Tells that those down to this place by power are bonded, and no others.
+    pub fn know_set(&mut self, least: (u64, Addr))
+        requires bonded { AreBondedTo self.old.power_reduction (standing least)
+            self.old.staked.validators }
+        ensures { self.new ≡ self.old }
+    {
+        let (power, operator) = least;
+        self.validators.know_set(Standing {
+            power: u128::from(power),
+            operator,
+        });
     }
 
     /// It tells that the keys ascend.

@@ -40,13 +40,13 @@ returns-in-Err-end-clause-steps g c = λ p h.
     let taken : IsTaken begun told = record { none = t.none; bank = t.bank; ctx = t.ctx; stakes = t.stakes; shared = t.shared; signings = t.signings } in
     let applies = subst (λ (l : List Tx). (q : State) → StandsWhole (kept_of told) q → StandsWhole (kept_of applied) (without_facts (txs_applied l q).state)) c.as_slice.ensures c.in-Ok.ensures.state in
     subst (λ f. AnswersStep (parts_stepped b p) (kept_of c.end.new.modules) (Err f)) (sym c.fault_of_hook-in-Err-end.ensures)
-    (end_stopped b c.args.modules.now begun told applied c.in_default.ensures.leads taken applies c.end.new.modules (kept_of c.end.new.modules) c.in-Err-end.fault c.in-Err-end.ensures.leads p h)
+    (end_stopped b c.args.modules.now begun told applied c.in_default.ensures.leads taken applies c.end.new.modules (kept_of c.end.new.modules) c.in-Err-end.fault c.in-Err-end.ensures.takes.leads p h)
 
 pub returns-in-Err-end-clause-behind : goal.returns-in-Err-end-clause-behind
 returns-in-Err-end-clause-behind g c =
     let t = c.told-begun.ensures in
     let taken : IsTaken c.begin.new.modules c.told-begun.new.modules = record { none = t.none; bank = t.bank; ctx = t.ctx; stakes = t.stakes; shared = t.shared; signings = t.signings } in
-    c.end.ensures.go_on.behind ∙ c.apply_transactions.ensures.behind ∙ taken_behind c.begin.new.modules c.told-begun.new.modules taken ∙ c.begin.ensures.go_on.behind
+    c.end.ensures.takes.go_on.behind ∙ c.apply_transactions.ensures.behind ∙ taken_behind c.begin.new.modules c.told-begun.new.modules taken ∙ c.begin.ensures.go_on.behind
 
 pub returns-clause-steps : goal.returns-clause-steps
 returns-clause-steps g c = λ p h.
@@ -61,14 +61,14 @@ returns-clause-steps g c = λ p h.
     let taken : IsTaken begun told = record { none = t.none; bank = t.bank; ctx = t.ctx; stakes = t.stakes; shared = t.shared; signings = t.signings } in
     let out : IsTaken ended last = record { none = u.none; bank = u.bank; ctx = u.ctx; stakes = u.stakes; shared = u.shared; signings = u.signings } in
     let applies = subst (λ (l : List Tx). (q : State) → StandsWhole (kept_of told) q → StandsWhole (kept_of applied) (without_facts (txs_applied l q).state)) c.as_slice.ensures c.in-Ok.ensures.state in
-    parts_done b c.args.modules.now begun told applied c.in_default.ensures.leads taken applies ended last c.in_default-end.ensures.leads out c.told-begun.result c.told_last-ended.result c.of.result t.facts
+    parts_done b c.args.modules.now begun told applied c.in_default.ensures.leads taken applies ended last c.in_default-end.ensures.takes.leads out c.told-begun.result c.told_last-ended.result c.of.result t.facts
     (λ q s. c.of.ensures ∙ subst (λ (l : List Tx). c.in-Ok.txs.items ≡ (txs_applied l q).reports) c.as_slice.ensures (c.in-Ok.ensures.reports q s)) u.facts p h
 
 pub returns-clause-steady : goal.returns-clause-steady
 returns-clause-steady g c =
     let u = c.told_last-ended.ensures in
     let out : IsTaken c.end.new.modules c.told_last-ended.new.modules = record { none = u.none; bank = u.bank; ctx = u.ctx; stakes = u.stakes; shared = u.shared; signings = u.signings } in
-    taken_steady c.end.new.modules c.told_last-ended.new.modules out c.in_default-end.ensures.steady
+    taken_steady c.end.new.modules c.told_last-ended.new.modules out c.in_default-end.ensures.takes.steady
 
 pub returns-clause-behind : goal.returns-clause-behind
 returns-clause-behind g c =
@@ -76,7 +76,7 @@ returns-clause-behind g c =
     let u = c.told_last-ended.ensures in
     let taken : IsTaken c.begin.new.modules c.told-begun.new.modules = record { none = t.none; bank = t.bank; ctx = t.ctx; stakes = t.stakes; shared = t.shared; signings = t.signings } in
     let out : IsTaken c.end.new.modules c.told_last-ended.new.modules = record { none = u.none; bank = u.bank; ctx = u.ctx; stakes = u.stakes; shared = u.shared; signings = u.signings } in
-    taken_behind c.end.new.modules c.told_last-ended.new.modules out ∙ c.end.ensures.go_on.behind ∙ c.apply_transactions.ensures.behind ∙ taken_behind c.begin.new.modules c.told-begun.new.modules taken ∙ c.begin.ensures.go_on.behind
+    taken_behind c.end.new.modules c.told_last-ended.new.modules out ∙ c.end.ensures.takes.go_on.behind ∙ c.apply_transactions.ensures.behind ∙ taken_behind c.begin.new.modules c.told-begun.new.modules taken ∙ c.begin.ensures.go_on.behind
 
 pub returns-clause-heard : goal.returns-clause-heard
 returns-clause-heard g c =

@@ -13,20 +13,4 @@ returns-clause-ends g c =
     let after = c.spend.new in
     let m = c.args.m.now in
     let new : Modules g.row.E.Denot = record { ground = after.g; stakes = old.stakes; hooks = record { first = record { first = after.self; second = record { listener = old.hooks.first.second.listener } }; second = old.hooks.second } } in
-    (spend_well g.E.StakingHooks.marks old new c.requires.steady refl refl c.spend.ensures.undone m.authority m.recipient m.coins c.spend.result c.len.ensures.money c.spend.ensures.spent c.spend.ensures.goes_on).ends
-
-pub returns-clause-steady : goal.returns-clause-steady
-returns-clause-steady g c =
-    let old : Modules g.row.E.Denot = c.args.modules.now in
-    let after = c.spend.new in
-    let m = c.args.m.now in
-    let new : Modules g.row.E.Denot = record { ground = after.g; stakes = old.stakes; hooks = record { first = record { first = after.self; second = record { listener = old.hooks.first.second.listener } }; second = old.hooks.second } } in
-    (spend_well g.E.StakingHooks.marks old new c.requires.steady refl refl c.spend.ensures.undone m.authority m.recipient m.coins c.spend.result c.len.ensures.money c.spend.ensures.spent c.spend.ensures.goes_on).steady
-
-pub returns-clause-go_on : goal.returns-clause-go_on
-returns-clause-go_on g c =
-    let old : Modules g.row.E.Denot = c.args.modules.now in
-    let after = c.spend.new in
-    let m = c.args.m.now in
-    let new : Modules g.row.E.Denot = record { ground = after.g; stakes = old.stakes; hooks = record { first = record { first = after.self; second = record { listener = old.hooks.first.second.listener } }; second = old.hooks.second } } in
-    (spend_well g.E.StakingHooks.marks old new c.requires.steady refl refl c.spend.ensures.undone m.authority m.recipient m.coins c.spend.result c.len.ensures.money c.spend.ensures.spent c.spend.ensures.goes_on).go_on
+    spend_well g.E.StakingHooks.marks old new c.requires.steady refl refl c.spend.ensures.undone m.authority m.recipient m.coins c.spend.result c.len.ensures.money c.spend.ensures.spent c.spend.ensures.goes_on

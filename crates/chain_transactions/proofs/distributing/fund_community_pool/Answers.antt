@@ -13,20 +13,4 @@ returns-clause-ends g c =
     let after = c.fund.new in
     let m = c.args.m.now in
     let new : Modules g.row.E.Denot = record { ground = after.g; stakes = old.stakes; hooks = record { first = record { first = after.self; second = record { listener = old.hooks.first.second.listener } }; second = old.hooks.second } } in
-    (fund_well g.E.StakingHooks.marks old new c.requires.steady refl refl c.fund.ensures.undone m.depositor m.coins c.fund.result c.len.ensures.money c.fund.ensures.funded c.fund.ensures.goes_on).ends
-
-pub returns-clause-steady : goal.returns-clause-steady
-returns-clause-steady g c =
-    let old : Modules g.row.E.Denot = c.args.modules.now in
-    let after = c.fund.new in
-    let m = c.args.m.now in
-    let new : Modules g.row.E.Denot = record { ground = after.g; stakes = old.stakes; hooks = record { first = record { first = after.self; second = record { listener = old.hooks.first.second.listener } }; second = old.hooks.second } } in
-    (fund_well g.E.StakingHooks.marks old new c.requires.steady refl refl c.fund.ensures.undone m.depositor m.coins c.fund.result c.len.ensures.money c.fund.ensures.funded c.fund.ensures.goes_on).steady
-
-pub returns-clause-go_on : goal.returns-clause-go_on
-returns-clause-go_on g c =
-    let old : Modules g.row.E.Denot = c.args.modules.now in
-    let after = c.fund.new in
-    let m = c.args.m.now in
-    let new : Modules g.row.E.Denot = record { ground = after.g; stakes = old.stakes; hooks = record { first = record { first = after.self; second = record { listener = old.hooks.first.second.listener } }; second = old.hooks.second } } in
-    (fund_well g.E.StakingHooks.marks old new c.requires.steady refl refl c.fund.ensures.undone m.depositor m.coins c.fund.result c.len.ensures.money c.fund.ensures.funded c.fund.ensures.goes_on).go_on
+    fund_well g.E.StakingHooks.marks old new c.requires.steady refl refl c.fund.ensures.undone m.depositor m.coins c.fund.result c.len.ensures.money c.fund.ensures.funded c.fund.ensures.goes_on

@@ -10,22 +10,4 @@ returns-clause-ends g c =
     let m = c.args.m.now in
     let new : Modules g.row.E.Denot = record { ground = record { bank = old.ground.bank; ctx = old.ground.ctx; facts = after.facts }; stakes = old.stakes; hooks = record { first = record { first = after.self; second = record { listener = old.hooks.first.second.listener } }; second = old.hooks.second } } in
     let same : new.ground ≡ old.ground = λ i. record { bank = old.ground.bank; ctx = old.ground.ctx; facts = c.set_withdraw.ensures.untold i } in
-    (payee_well g.E.StakingHooks.marks old new c.requires.steady refl refl (ground_stays old new same) m.delegator m.withdraw c.set_withdraw.result same c.set_withdraw.ensures.set c.set_withdraw.ensures.goes_on).ends
-
-pub returns-clause-steady : goal.returns-clause-steady
-returns-clause-steady g c =
-    let old : Modules g.row.E.Denot = c.args.modules.now in
-    let after = c.set_withdraw.new in
-    let m = c.args.m.now in
-    let new : Modules g.row.E.Denot = record { ground = record { bank = old.ground.bank; ctx = old.ground.ctx; facts = after.facts }; stakes = old.stakes; hooks = record { first = record { first = after.self; second = record { listener = old.hooks.first.second.listener } }; second = old.hooks.second } } in
-    let same : new.ground ≡ old.ground = λ i. record { bank = old.ground.bank; ctx = old.ground.ctx; facts = c.set_withdraw.ensures.untold i } in
-    (payee_well g.E.StakingHooks.marks old new c.requires.steady refl refl (ground_stays old new same) m.delegator m.withdraw c.set_withdraw.result same c.set_withdraw.ensures.set c.set_withdraw.ensures.goes_on).steady
-
-pub returns-clause-go_on : goal.returns-clause-go_on
-returns-clause-go_on g c =
-    let old : Modules g.row.E.Denot = c.args.modules.now in
-    let after = c.set_withdraw.new in
-    let m = c.args.m.now in
-    let new : Modules g.row.E.Denot = record { ground = record { bank = old.ground.bank; ctx = old.ground.ctx; facts = after.facts }; stakes = old.stakes; hooks = record { first = record { first = after.self; second = record { listener = old.hooks.first.second.listener } }; second = old.hooks.second } } in
-    let same : new.ground ≡ old.ground = λ i. record { bank = old.ground.bank; ctx = old.ground.ctx; facts = c.set_withdraw.ensures.untold i } in
-    (payee_well g.E.StakingHooks.marks old new c.requires.steady refl refl (ground_stays old new same) m.delegator m.withdraw c.set_withdraw.result same c.set_withdraw.ensures.set c.set_withdraw.ensures.goes_on).go_on
+    payee_well g.E.StakingHooks.marks old new c.requires.steady refl refl (ground_stays old new same) m.delegator m.withdraw c.set_withdraw.result same c.set_withdraw.ensures.set c.set_withdraw.ensures.goes_on

@@ -13,12 +13,4 @@ returns-clause-ends g c =
     let after = c.withdraw_commission.new in
     let new : Modules g.row.E.Denot = record { ground = after.g; stakes = old.stakes; hooks = record { first = record { first = after.self; second = record { listener = old.hooks.first.second.listener } }; second = old.hooks.second } } in
     let done = c.in_ok-withdraw_commission in
-    (commission_well g.E.StakingHooks.marks old new c.requires.steady refl refl c.withdraw_commission.ensures.undone c.args.m.now.validator (Ok done.field-0) done.ensures.withdrawn done.ensures.goes_on).ends
-
-pub returns-clause-steady : goal.returns-clause-steady
-returns-clause-steady g c =
-    let old : Modules g.row.E.Denot = c.args.modules.now in
-    let after = c.withdraw_commission.new in
-    let new : Modules g.row.E.Denot = record { ground = after.g; stakes = old.stakes; hooks = record { first = record { first = after.self; second = record { listener = old.hooks.first.second.listener } }; second = old.hooks.second } } in
-    let done = c.in_ok-withdraw_commission in
-    (commission_well g.E.StakingHooks.marks old new c.requires.steady refl refl c.withdraw_commission.ensures.undone c.args.m.now.validator (Ok done.field-0) done.ensures.withdrawn done.ensures.goes_on).steady
+    commission_well g.E.StakingHooks.marks old new c.requires.steady refl refl c.withdraw_commission.ensures.undone c.args.m.now.validator (Ok done.field-0) done.ensures.withdrawn done.ensures.goes_on

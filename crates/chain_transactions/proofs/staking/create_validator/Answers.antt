@@ -13,21 +13,7 @@ returns-clause-ends g c =
     let old : Modules g.row.E.Denot = c.args.modules.now in
     let after = c.create_validator.new in
     let new : Modules g.row.E.Denot = record { ground = after.g; stakes = record { staking = after.self; unbondings = old.stakes.unbondings; redelegations = old.stakes.redelegations }; hooks = after.hooks } in
-    (create_well g.E.StakingHooks.marks old new c.requires.steady refl refl c.args.m.now c.create_validator.result (create_apart g.E.Extra.heard g.E.Extra.hears old new c.args.m.now c.create_validator.result c.create_validator.ensures.told) c.create_validator.ensures.goes_on).ends
-
-pub returns-clause-steady : goal.returns-clause-steady
-returns-clause-steady g c =
-    let old : Modules g.row.E.Denot = c.args.modules.now in
-    let after = c.create_validator.new in
-    let new : Modules g.row.E.Denot = record { ground = after.g; stakes = record { staking = after.self; unbondings = old.stakes.unbondings; redelegations = old.stakes.redelegations }; hooks = after.hooks } in
-    (create_well g.E.StakingHooks.marks old new c.requires.steady refl refl c.args.m.now c.create_validator.result (create_apart g.E.Extra.heard g.E.Extra.hears old new c.args.m.now c.create_validator.result c.create_validator.ensures.told) c.create_validator.ensures.goes_on).steady
-
-pub returns-clause-go_on : goal.returns-clause-go_on
-returns-clause-go_on g c =
-    let old : Modules g.row.E.Denot = c.args.modules.now in
-    let after = c.create_validator.new in
-    let new : Modules g.row.E.Denot = record { ground = after.g; stakes = record { staking = after.self; unbondings = old.stakes.unbondings; redelegations = old.stakes.redelegations }; hooks = after.hooks } in
-    (create_well g.E.StakingHooks.marks old new c.requires.steady refl refl c.args.m.now c.create_validator.result (create_apart g.E.Extra.heard g.E.Extra.hears old new c.args.m.now c.create_validator.result c.create_validator.ensures.told) c.create_validator.ensures.goes_on).go_on
+    create_well g.E.StakingHooks.marks old new c.requires.steady refl refl c.args.m.now c.create_validator.result (create_apart g.E.Extra.heard g.E.Extra.hears old new c.args.m.now c.create_validator.result c.create_validator.ensures.told) c.create_validator.ensures.goes_on
 
 pub returns-clause-listener : goal.returns-clause-listener
 returns-clause-listener g c = g.met.E.Extra.listens.same_marks _ _ (listener_behind g.E.StakingHooks.marks c.args.modules.now.hooks c.create_validator.new.hooks c.create_validator.ensures.goes_on.hook_marks)

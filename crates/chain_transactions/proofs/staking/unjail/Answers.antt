@@ -15,20 +15,4 @@ returns-clause-ends g c =
     let after = c.unjail.new in
     let new : Modules g.row.E.Denot = record { ground = after.g; stakes = record { staking = after.staking; unbondings = old.stakes.unbondings; redelegations = old.stakes.redelegations }; hooks = record { first = old.hooks.first; second = after.self } } in
     let same : new.hooks ≡ old.hooks = λ i. record { first = old.hooks.first; second = c.unjail.ensures.same i } in
-    (unjail_well g.E.StakingHooks.marks old new c.requires.steady refl refl same c.unjail.ensures.undone c.args.m.now.validator c.unjail.result c.unjail.ensures.told c.unjail.ensures.register).ends
-
-pub returns-clause-steady : goal.returns-clause-steady
-returns-clause-steady g c =
-    let old : Modules g.row.E.Denot = c.args.modules.now in
-    let after = c.unjail.new in
-    let new : Modules g.row.E.Denot = record { ground = after.g; stakes = record { staking = after.staking; unbondings = old.stakes.unbondings; redelegations = old.stakes.redelegations }; hooks = record { first = old.hooks.first; second = after.self } } in
-    let same : new.hooks ≡ old.hooks = λ i. record { first = old.hooks.first; second = c.unjail.ensures.same i } in
-    (unjail_well g.E.StakingHooks.marks old new c.requires.steady refl refl same c.unjail.ensures.undone c.args.m.now.validator c.unjail.result c.unjail.ensures.told c.unjail.ensures.register).steady
-
-pub returns-clause-go_on : goal.returns-clause-go_on
-returns-clause-go_on g c =
-    let old : Modules g.row.E.Denot = c.args.modules.now in
-    let after = c.unjail.new in
-    let new : Modules g.row.E.Denot = record { ground = after.g; stakes = record { staking = after.staking; unbondings = old.stakes.unbondings; redelegations = old.stakes.redelegations }; hooks = record { first = old.hooks.first; second = after.self } } in
-    let same : new.hooks ≡ old.hooks = λ i. record { first = old.hooks.first; second = c.unjail.ensures.same i } in
-    (unjail_well g.E.StakingHooks.marks old new c.requires.steady refl refl same c.unjail.ensures.undone c.args.m.now.validator c.unjail.result c.unjail.ensures.told c.unjail.ensures.register).go_on
+    unjail_well g.E.StakingHooks.marks old new c.requires.steady refl refl same c.unjail.ensures.undone c.args.m.now.validator c.unjail.result c.unjail.ensures.told c.unjail.ensures.register

@@ -14,23 +14,7 @@ returns-clause-ends g c =
     let after = c.begin.new in
     let new : Modules g.row.E.Denot = record { ground = after.g; stakes = record { staking = after.staking; unbondings = old.stakes.unbondings; redelegations = after.self }; hooks = after.hooks } in
     let m = c.args.m.now in
-    (redelegate_well g.E.StakingHooks.marks old new c.requires.steady m.delegator m.source m.target m.amount c.begin.result refl (redelegate_apart g.E.Extra.heard g.E.Extra.hears old new m.delegator m.source m.target m.amount c.begin.result (λ h k. c.begin.ensures.told h k [])) c.begin.ensures.goes_on c.begin.ensures.entries_go_on).ends
-
-pub returns-clause-steady : goal.returns-clause-steady
-returns-clause-steady g c =
-    let old : Modules g.row.E.Denot = c.args.modules.now in
-    let after = c.begin.new in
-    let new : Modules g.row.E.Denot = record { ground = after.g; stakes = record { staking = after.staking; unbondings = old.stakes.unbondings; redelegations = after.self }; hooks = after.hooks } in
-    let m = c.args.m.now in
-    (redelegate_well g.E.StakingHooks.marks old new c.requires.steady m.delegator m.source m.target m.amount c.begin.result refl (redelegate_apart g.E.Extra.heard g.E.Extra.hears old new m.delegator m.source m.target m.amount c.begin.result (λ h k. c.begin.ensures.told h k [])) c.begin.ensures.goes_on c.begin.ensures.entries_go_on).steady
-
-pub returns-clause-go_on : goal.returns-clause-go_on
-returns-clause-go_on g c =
-    let old : Modules g.row.E.Denot = c.args.modules.now in
-    let after = c.begin.new in
-    let new : Modules g.row.E.Denot = record { ground = after.g; stakes = record { staking = after.staking; unbondings = old.stakes.unbondings; redelegations = after.self }; hooks = after.hooks } in
-    let m = c.args.m.now in
-    (redelegate_well g.E.StakingHooks.marks old new c.requires.steady m.delegator m.source m.target m.amount c.begin.result refl (redelegate_apart g.E.Extra.heard g.E.Extra.hears old new m.delegator m.source m.target m.amount c.begin.result (λ h k. c.begin.ensures.told h k [])) c.begin.ensures.goes_on c.begin.ensures.entries_go_on).go_on
+    redelegate_well g.E.StakingHooks.marks old new c.requires.steady m.delegator m.source m.target m.amount c.begin.result refl (redelegate_apart g.E.Extra.heard g.E.Extra.hears old new m.delegator m.source m.target m.amount c.begin.result (λ h k. c.begin.ensures.told h k [])) c.begin.ensures.goes_on c.begin.ensures.entries_go_on
 
 pub returns-clause-listener : goal.returns-clause-listener
 returns-clause-listener g c = g.met.E.Extra.listens.same_marks _ _ (listener_behind g.E.StakingHooks.marks c.args.modules.now.hooks c.begin.new.hooks c.begin.ensures.goes_on.hook_marks)

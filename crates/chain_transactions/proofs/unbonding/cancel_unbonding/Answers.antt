@@ -14,23 +14,7 @@ returns-clause-ends g c =
     let after = c.cancel.new in
     let new : Modules g.row.E.Denot = record { ground = after.g; stakes = record { staking = after.staking; unbondings = after.self; redelegations = old.stakes.redelegations }; hooks = after.hooks } in
     let m = c.args.m.now in
-    (cancel_well g.E.StakingHooks.marks old new c.requires.steady m.delegator m.validator m.amount m.creation_height c.cancel.result refl (cancel_apart g.E.Extra.heard g.E.Extra.hears old new m.delegator m.validator m.amount m.creation_height c.cancel.result (λ h k. c.cancel.ensures.told h k [])) c.cancel.ensures.goes_on c.cancel.ensures.entries_go_on).ends
-
-pub returns-clause-steady : goal.returns-clause-steady
-returns-clause-steady g c =
-    let old : Modules g.row.E.Denot = c.args.modules.now in
-    let after = c.cancel.new in
-    let new : Modules g.row.E.Denot = record { ground = after.g; stakes = record { staking = after.staking; unbondings = after.self; redelegations = old.stakes.redelegations }; hooks = after.hooks } in
-    let m = c.args.m.now in
-    (cancel_well g.E.StakingHooks.marks old new c.requires.steady m.delegator m.validator m.amount m.creation_height c.cancel.result refl (cancel_apart g.E.Extra.heard g.E.Extra.hears old new m.delegator m.validator m.amount m.creation_height c.cancel.result (λ h k. c.cancel.ensures.told h k [])) c.cancel.ensures.goes_on c.cancel.ensures.entries_go_on).steady
-
-pub returns-clause-go_on : goal.returns-clause-go_on
-returns-clause-go_on g c =
-    let old : Modules g.row.E.Denot = c.args.modules.now in
-    let after = c.cancel.new in
-    let new : Modules g.row.E.Denot = record { ground = after.g; stakes = record { staking = after.staking; unbondings = after.self; redelegations = old.stakes.redelegations }; hooks = after.hooks } in
-    let m = c.args.m.now in
-    (cancel_well g.E.StakingHooks.marks old new c.requires.steady m.delegator m.validator m.amount m.creation_height c.cancel.result refl (cancel_apart g.E.Extra.heard g.E.Extra.hears old new m.delegator m.validator m.amount m.creation_height c.cancel.result (λ h k. c.cancel.ensures.told h k [])) c.cancel.ensures.goes_on c.cancel.ensures.entries_go_on).go_on
+    cancel_well g.E.StakingHooks.marks old new c.requires.steady m.delegator m.validator m.amount m.creation_height c.cancel.result refl (cancel_apart g.E.Extra.heard g.E.Extra.hears old new m.delegator m.validator m.amount m.creation_height c.cancel.result (λ h k. c.cancel.ensures.told h k [])) c.cancel.ensures.goes_on c.cancel.ensures.entries_go_on
 
 pub returns-clause-listener : goal.returns-clause-listener
 returns-clause-listener g c = g.met.E.Extra.listens.same_marks _ _ (listener_behind g.E.StakingHooks.marks c.args.modules.now.hooks c.cancel.new.hooks c.cancel.ensures.goes_on.hook_marks)

@@ -4,7 +4,7 @@ use Rattle.base_roles.specs.declared.faults.HookFault.TheVariants as hook
 use Rattle.base_roles.specs.{Ground.seen, Flow.each, Staked.validator_at}
 use Rattle.rule_modules.{specs.{Answers.Leaves, BondedSet.matured}, proofs.OperatorLemmas.values_own}
 use Rattle.mod_staking.specs.Calls.{behind_log}
-use Rattle.mod_bonded_set.{specs.Sets.is_due, proofs.LoopLemmas.{next_of, undone-none, undone-then}}
+use Rattle.mod_bonded_set.{specs.{Calls.AllStays, Sets.is_due}, proofs.LoopLemmas.{next_of, fine, stays-none, stays-of, stays-then}}
 use Rattle.mod_bonded_set.proofs.MatureLemmas.{matured-first, matured-stopped, matured-all, next-due, matured-more, others-stand}
 use Rattle.mod_bonded_set.proofs.{StakeLemmas.{sound_ascend, sound_keyed}, StandLemmas.all_stand}
 use Rattle.mod_bonded_set.proofs.maturing.mature_all.Goals as goal
@@ -24,11 +24,7 @@ loop-operator-init g c =
         matured = λ h o log. matured-first g.H.StakingHooks.tells g.met.H.StakingHooks.lawful h log s v (values_of s.validators) (g.H.StakingHooks.holds c.args.hooks.now) o;
       };
       hooked = c.requires.hooked;
-      undone = undone-none g.B.Bank.marks c.args.g.now;
-      bank = refl;
-      marks = refl;
-      behind = refl;
-      spent = refl;
+      stays = stays-none g.B.Bank.marks g.B.Bank.most_steps g.H.StakingHooks.marks c.args.g.now c.args.hooks.now c.args.staking.now fine;
       within = omega arith;
       cost = λ e. omega arith;
     }
@@ -41,7 +37,7 @@ mature-requires g c =
     let left = next_of xs c.loop-operator.operator-index o c.loop-operator-test.true c.operator-item.is in
     let h = c.loop-operator.invariant.maturing in
     let s = c.loop-operator.staking.staked in
-    let time = ap (λ k. k.time) c.loop-operator.invariant.undone.ctx in
+    let time = ap (λ k. k.time) c.loop-operator.invariant.stays.undone.ctx in
     let next = next-due g.H.StakingHooks.tells.told c.args.g.now.ctx.time h.rest o rest (h.left ∙ left) in
     record {
       stands = (next.v, (ap (validator_at s) (sym next.own) ∙ (next.stands s h.stand).0, ap (λ n. is_due n next.v) time ∙ next.due));
@@ -67,7 +63,7 @@ loop-operator-preserved g c =
     let holds = g.H.StakingHooks.holds c.loop-operator.hooks in
     let holds2 = g.H.StakingHooks.holds c.mature.new.hooks in
     let now = c.args.g.now.ctx.time in
-    let time = ap (λ k. k.time) before.undone.ctx in
+    let time = ap (λ k. k.time) before.stays.undone.ctx in
     let next = next-due t.told now h.rest o rest (h.left ∙ left) in
     let found = (next.stands s h.stand).0 in
     let away = next.apart h.apart in
@@ -88,11 +84,8 @@ loop-operator-preserved g c =
             matured-more t lawful k log s0 v0 (values_of s0.validators) holds holds2 now h.rest o rest s s2 u u2 one next time before.hooked.sound found (c.in_ok-mature.ensures.told one.now one.held one.log next.v stands);
       };
       hooked = c.in_ok-mature.ensures.hooked;
-      undone = undone-then g.B.Bank.marks c.args.g.now c.loop-operator.g c.mature.new.g before.undone more.undone;
-      bank = more.bank ∙ before.bank;
-      marks = more.hook_marks ∙ before.marks;
-      behind = more.register.behind ∙ before.behind;
-      spent = more.register.unspent ∙ before.spent;
+      stays = stays-then g.B.Bank.marks g.B.Bank.most_steps g.H.StakingHooks.marks c.args.g.now c.loop-operator.g c.mature.new.g c.args.hooks.now c.loop-operator.hooks c.mature.new.hooks c.args.staking.now c.loop-operator.staking c.mature.new.staking fine before.stays
+          (stays-of g.B.Bank.marks g.B.Bank.most_steps g.H.StakingHooks.marks c.loop-operator.g c.mature.new.g c.loop-operator.hooks c.mature.new.hooks c.loop-operator.staking c.mature.new.staking fine more);
       within = omega (arith, test);
       cost = λ e.
           let so_far = before.cost e in
@@ -118,7 +111,7 @@ returns-in_err-mature-clause-told g c = λ k w log.
     let holds = g.H.StakingHooks.holds c.loop-operator.hooks in
     let holds2 = g.H.StakingHooks.holds c.mature.new.hooks in
     let now = c.args.g.now.ctx.time in
-    let time = ap (λ k. k.time) before.undone.ctx in
+    let time = ap (λ k. k.time) before.stays.undone.ctx in
     let next = next-due t.told now h.rest o rest (h.left ∙ left) in
     let found = (next.stands s h.stand).0 in
     let stands = ap (validator_at s) (sym next.own) ∙ found in
@@ -135,8 +128,13 @@ returns-in_err-mature-clause-sure g c = λ k w stand sure.
     let one = c.loop-operator.invariant.maturing.matured k w [] in
     subst (λ r. IfErr r (λ f. f ≡ hook.NoMemory)) (sym given) (c.in_err-mature.ensures.sure one.now one.held (one.stand stand) (one.sure ∙ sure))
 
-pub returns-in_err-mature-clause-undone : goal.returns-in_err-mature-clause-undone
-returns-in_err-mature-clause-undone g c = undone-then g.B.Bank.marks c.args.g.now c.loop-operator.g c.mature.new.g c.loop-operator.invariant.undone c.mature.ensures.goes_on.undone
+pub returns-in_err-mature-clause-stays : goal.returns-in_err-mature-clause-stays
+returns-in_err-mature-clause-stays g c =
+    let fault = c.in_err-mature.field-0.0 in
+    let given : c.from_residual.result ≡ Err fault = search rules in
+    subst (AllStays g.B.Bank.marks g.B.Bank.most_steps g.H.StakingHooks.marks c.args.g.now c.mature.new.g c.args.hooks.now c.mature.new.hooks c.args.staking.now c.mature.new.staking) (sym given)
+    (stays-then g.B.Bank.marks g.B.Bank.most_steps g.H.StakingHooks.marks c.args.g.now c.loop-operator.g c.mature.new.g c.args.hooks.now c.loop-operator.hooks c.mature.new.hooks c.args.staking.now c.loop-operator.staking c.mature.new.staking (Err fault) c.loop-operator.invariant.stays
+    (stays-of g.B.Bank.marks g.B.Bank.most_steps g.H.StakingHooks.marks c.loop-operator.g c.mature.new.g c.loop-operator.hooks c.mature.new.hooks c.loop-operator.staking c.mature.new.staking (Err fault) c.in_err-mature.ensures.goes_on))
 
 pub returns-clause-told : goal.returns-clause-told
 returns-clause-told g c = λ k w log.
@@ -144,7 +142,7 @@ returns-clause-told g c = λ k w log.
     let s0 = c.args.staking.now.staked in
     let none = drop_all c.loop-operator.operator-index c.args.due.now c.loop-operator-test.false in
     matured-all g.H.StakingHooks.tells g.met.H.StakingHooks.lawful k log s0 (seen g.B.Bank.holdings c.args.g.now) (values_of s0.validators) (g.H.StakingHooks.holds c.loop-operator.hooks) c.args.g.now.ctx.time h.rest c.loop-operator.staking.staked
-    (seen g.B.Bank.holdings c.loop-operator.g) (h.matured k w log) (h.left ∙ none) (ap (λ x. x.time) c.loop-operator.invariant.undone.ctx)
+    (seen g.B.Bank.holdings c.loop-operator.g) (h.matured k w log) (h.left ∙ none) (ap (λ x. x.time) c.loop-operator.invariant.stays.undone.ctx)
 
 pub returns-clause-keeps : goal.returns-clause-keeps
 returns-clause-keeps g c = λ k w stand. (c.loop-operator.invariant.maturing.matured k w []).keeps stand

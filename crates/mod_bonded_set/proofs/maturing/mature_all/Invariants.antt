@@ -1,20 +1,17 @@
 use Rattle.std.proofs.Common.{◌≡◌, ◌+◌, ◌*◌, ◌≤◌, length, drop}
 use Rattle.std.specs.Map.{values_of}
-use Rattle.base_roles.specs.Ground.{seen, CanBeUndone}
+use Rattle.base_roles.specs.Ground.{seen}
 use Rattle.rule_modules.specs.Amounts.{count_where}
-use Rattle.mod_staking.specs.{Registered.behind, Scenes.IsHooked}
-use Rattle.mod_bonded_set.{specs.Sets.goes_at, proofs.MatureLemmas.AreMaturing}
+use Rattle.mod_staking.specs.Scenes.{IsHooked}
+use Rattle.mod_bonded_set.specs.{Calls.AllStays, Sets.goes_at}
+use Rattle.mod_bonded_set.proofs.{MatureLemmas.AreMaturing, LoopLemmas.fine}
 use Rattle.mod_bonded_set.proofs.maturing.mature_all.Given as goal
 
 abbrev pub invariant-loop-operator : goal.invariant-loop-operator
 invariant-loop-operator g l = record {
   maturing : AreMaturing g.H.StakingHooks.tells (g.H.StakingHooks.holds l.fn.hooks) (g.H.StakingHooks.holds l.hooks) l.fn.g.ctx.time l.fn.staking.staked (seen g.B.Bank.holdings l.fn.g) (drop l.operator-index l.due) l.staking.staked (seen g.B.Bank.holdings l.g);
   hooked : IsHooked g.H.StakingHooks.tells (g.H.StakingHooks.holds l.hooks) (seen g.B.Bank.holdings l.g) l.staking.staked;
-  undone : CanBeUndone g.B.Bank.marks l.fn.g l.g;
-  bank : g.B.Bank.most_steps l.g.bank ≡ g.B.Bank.most_steps l.fn.g.bank;
-  marks : g.H.StakingHooks.marks l.hooks ≡ g.H.StakingHooks.marks l.fn.hooks;
-  behind : behind l.staking ≡ behind l.fn.staking;
-  spent : l.staking.spent ≡ l.fn.staking.spent;
+  stays : AllStays g.B.Bank.marks g.B.Bank.most_steps g.H.StakingHooks.marks l.fn.g l.g l.fn.hooks l.hooks l.fn.staking l.staking fine;
   within : l.operator-index ≤ length l.due;
   cost : count_where (goes_at l.fn.g.ctx.time) (values_of l.fn.staking.staked.validators) ≡ 0 → l.steps ≤ l.fn.steps + 10 * l.operator-index;
 }

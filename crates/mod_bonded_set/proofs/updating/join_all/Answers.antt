@@ -4,9 +4,9 @@ use Rattle.base_roles.specs.declared.faults.HookFault.TheVariants as hook
 use Rattle.base_roles.specs.{Ground.seen, Flow.each}
 use Rattle.rule_modules.specs.{Answers.Leaves, BondedSet.{HaveOwnOperators, joined_set}}
 use Rattle.mod_staking.specs.Calls.{behind_log}
-use Rattle.mod_bonded_set.{specs.Sets.{AllStand, all_joined}, proofs.JoinLemmas.in_set}
+use Rattle.mod_bonded_set.{specs.{Calls.AllStays, Sets.{AllStand, all_joined}}, proofs.JoinLemmas.in_set}
 use Rattle.mod_bonded_set.proofs.JoinedLemmas.{HasJoined, joined-first, joined-more, joined-stopped, joined-all}
-use Rattle.mod_bonded_set.proofs.LoopLemmas.{next_of, undone-none, undone-then, cost_more, cost_within}
+use Rattle.mod_bonded_set.proofs.LoopLemmas.{next_of, fine, stays-none, stays-of, stays-then, cost_more, cost_within}
 use Rattle.mod_bonded_set.proofs.TokenLemmas.{still_stand}
 use Rattle.mod_bonded_set.proofs.updating.join_all.Goals as goal
 
@@ -18,11 +18,7 @@ loop-v-init g c = record {
   hooked = c.requires.hooked;
   stand = c.requires.stand;
   apart = c.requires.apart;
-  undone = undone-none g.B.Bank.marks c.args.g.now;
-  bank = refl;
-  marks = refl;
-  behind = refl;
-  spent = refl;
+  stays = stays-none g.B.Bank.marks g.B.Bank.most_steps g.H.StakingHooks.marks c.args.g.now c.args.hooks.now c.args.staking.now fine;
   cost = λ h o. omega arith;
 }
 
@@ -62,11 +58,8 @@ loop-v-preserved g c =
       hooked = c.in_ok-join.ensures.hooked;
       stand = subst (λ y. AllStand y rest) (sym c.in_ok-join.ensures.staked) (still_stand (in_set x) s rest apart.0 stand.1);
       apart = apart.1;
-      undone = undone-then g.B.Bank.marks c.args.g.now c.loop-v.g c.join.new.g before.undone more.undone;
-      bank = more.bank ∙ before.bank;
-      marks = more.hook_marks ∙ before.marks;
-      behind = more.register.behind ∙ before.behind;
-      spent = more.register.unspent ∙ before.spent;
+      stays = stays-then g.B.Bank.marks g.B.Bank.most_steps g.H.StakingHooks.marks c.args.g.now c.loop-v.g c.join.new.g c.args.hooks.now c.loop-v.hooks c.join.new.hooks c.args.staking.now c.loop-v.staking c.join.new.staking fine before.stays
+          (stays-of g.B.Bank.marks g.B.Bank.most_steps g.H.StakingHooks.marks c.loop-v.g c.join.new.g c.loop-v.hooks c.join.new.hooks c.loop-v.staking c.join.new.staking fine more);
       cost = λ h o.
           let one = before.joined h o [] in
           let turn = subst (λ n. c.join.new.steps ≤ c.loop-v.steps + 9 + n) one.most_steps (c.join.ensures.cost one.now one.held) in
@@ -101,8 +94,13 @@ returns-in_err-join-clause-sure g c = λ h o stand sure.
     let one = c.loop-v.invariant.joined h o [] in
     subst (λ r. IfErr r (λ f. f ≡ hook.NoMemory)) (sym given) (c.in_err-join.ensures.sure one.now one.held (one.stand stand) (one.sure ∙ sure))
 
-pub returns-in_err-join-clause-undone : goal.returns-in_err-join-clause-undone
-returns-in_err-join-clause-undone g c = undone-then g.B.Bank.marks c.args.g.now c.loop-v.g c.join.new.g c.loop-v.invariant.undone c.join.ensures.goes_on.undone
+pub returns-in_err-join-clause-stays : goal.returns-in_err-join-clause-stays
+returns-in_err-join-clause-stays g c =
+    let fault = c.in_err-join.field-0.0 in
+    let given : c.from_residual.result ≡ Err fault = search rules in
+    subst (AllStays g.B.Bank.marks g.B.Bank.most_steps g.H.StakingHooks.marks c.args.g.now c.join.new.g c.args.hooks.now c.join.new.hooks c.args.staking.now c.join.new.staking) (sym given)
+    (stays-then g.B.Bank.marks g.B.Bank.most_steps g.H.StakingHooks.marks c.args.g.now c.loop-v.g c.join.new.g c.args.hooks.now c.loop-v.hooks c.join.new.hooks c.args.staking.now c.loop-v.staking c.join.new.staking (Err fault) c.loop-v.invariant.stays
+    (stays-of g.B.Bank.marks g.B.Bank.most_steps g.H.StakingHooks.marks c.loop-v.g c.join.new.g c.loop-v.hooks c.join.new.hooks c.loop-v.staking c.join.new.staking (Err fault) c.in_err-join.ensures.goes_on))
 
 pub returns-in_err-join-clause-cost : goal.returns-in_err-join-clause-cost
 returns-in_err-join-clause-cost g c = λ h o.

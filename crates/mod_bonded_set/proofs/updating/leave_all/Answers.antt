@@ -1,10 +1,10 @@
-use Rattle.std.proofs.Common.{◌≡◌, ◌∙◌, ◌+◌, drop, refl, ap, sym, subst, arith}
+use Rattle.std.proofs.Common.{◌≡◌, ◌∙◌, ◌+◌, drop, refl, ap, sym, subst, arith, rules, Err}
 use Rattle.std.proofs.lemmas.List.{drop_all}
 use Rattle.base_types.specs.declared.status.BondStatus.TheVariants.{Unbonding}
 use Rattle.base_roles.specs.{declared.entities.Validator.Validator, Ground.{seen, IsInOrder}, Staked.put_validator}
 use Rattle.rule_modules.specs.{Unbondings.completion, BondedSet.HaveOwnOperators}
-use Rattle.mod_bonded_set.specs.Sets.{AllStand, all_left, all_leavings_noted}
-use Rattle.mod_bonded_set.proofs.{LoopLemmas.{next_of, undone-none, undone-then}, TokenLemmas.still_stand}
+use Rattle.mod_bonded_set.specs.{Calls.RegisterStays, Sets.{AllStand, all_left, all_leavings_noted}}
+use Rattle.mod_bonded_set.proofs.{LoopLemmas.{next_of, fine, register-none, register-of, register-then, undone-none, undone-then}, TokenLemmas.still_stand}
 use Rattle.mod_bonded_set.proofs.updating.leave_all.Goals as goal
 
 pub loop-v-init : goal.loop-v-init
@@ -18,8 +18,7 @@ loop-v-init g c = record {
   in_order = c.requires.in_order;
   undone = undone-none g.B.Bank.marks c.args.g.now;
   bank = refl;
-  behind = refl;
-  spent = refl;
+  register = register-none c.args.staking.now fine;
   cost = omega arith;
 }
 
@@ -62,8 +61,7 @@ loop-v-preserved g c =
       in_order = subst IsInOrder (sym c.in_ok-leave.ensures.ground) (record { params = old.params; time = old.time; height = old.height; bank = old.bank });
       undone = undone-then g.B.Bank.marks c.args.g.now c.loop-v.g c.leave.new.g before.undone more.undone;
       bank = more.bank ∙ before.bank;
-      behind = more.register.behind ∙ before.behind;
-      spent = more.register.unspent ∙ before.spent;
+      register = register-then c.args.staking.now c.loop-v.staking c.leave.new.staking fine before.register (register-of more.register);
       cost = omega (arith, cost, turn);
     }
 
@@ -75,3 +73,10 @@ returns-clause-staked g c = ap (λ l. all_left c.args.g.now.ctx.height (completi
 
 pub returns-clause-ground : goal.returns-clause-ground
 returns-clause-ground g c = ap (λ l. all_leavings_noted l (seen g.B.Bank.holdings c.loop-v.g)) (sym (drop_all c.loop-v.v-index c.args.leaving.now c.loop-v-test.false)) ∙ c.loop-v.invariant.ground
+
+pub returns-in_err-leave-clause-register : goal.returns-in_err-leave-clause-register
+returns-in_err-leave-clause-register g c =
+    let fault = c.in_err-leave.field-0.0 in
+    let given : c.from_residual.result ≡ Err fault = search rules in
+    subst (RegisterStays c.args.staking.now c.leave.new.staking) (sym given)
+    (register-then c.args.staking.now c.loop-v.staking c.leave.new.staking (Err fault) c.loop-v.invariant.register (register-of c.in_err-leave.ensures.register))

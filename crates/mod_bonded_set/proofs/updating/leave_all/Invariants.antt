@@ -1,8 +1,9 @@
 use Rattle.std.proofs.Common.{◌≡◌, ◌+◌, ◌*◌, ◌≤◌, length, drop}
 use Rattle.base_roles.specs.Ground.{seen, CanBeUndone, IsInOrder}
 use Rattle.rule_modules.specs.{Unbondings.completion, BondedSet.HaveOwnOperators}
-use Rattle.mod_staking.specs.{Calls.IsSoundStake, Registered.behind}
-use Rattle.mod_bonded_set.specs.Sets.{AllStand, all_left, all_leavings_noted}
+use Rattle.mod_staking.specs.Calls.{IsSoundStake}
+use Rattle.mod_bonded_set.specs.{Calls.RegisterStays, Sets.{AllStand, all_left, all_leavings_noted}}
+use Rattle.mod_bonded_set.proofs.LoopLemmas.{fine}
 use Rattle.mod_bonded_set.proofs.updating.leave_all.Given as goal
 
 abbrev pub invariant-loop-v : goal.invariant-loop-v
@@ -16,7 +17,6 @@ invariant-loop-v g l = record {
   in_order : IsInOrder (seen g.B.Bank.holdings l.g);
   undone : CanBeUndone g.B.Bank.marks l.fn.g l.g;
   bank : l.g.bank ≡ l.fn.g.bank;
-  behind : behind l.staking ≡ behind l.fn.staking;
-  spent : l.staking.spent ≡ l.fn.staking.spent;
+  register : RegisterStays l.fn.staking l.staking fine;
   cost : l.steps ≤ l.fn.steps + 9 * l.v-index;
 }
