@@ -96,7 +96,8 @@ pub fn equivocation<B: Bank, H: StakingHooks, S: Slasher, N: Signers, L: Ledger>
     punish(alloc, g, hooks, slasher, signers, e, operator, steps)
 }
 
-/// The slash, the jailing and the ban of evidence that is punished.
+/// Evidence that is punished: its validator is slashed, then jailed where it is not jailed then, then banned for
+/// ever, which is told by a fact. The errors are those of [`equivocation`].
 fn punish<B: Bank, H: StakingHooks, S: Slasher, N: Signers, L: Ledger>(
     alloc: Global,
     g: &mut Ground<B>,
@@ -107,7 +108,8 @@ fn punish<B: Bank, H: StakingHooks, S: Slasher, N: Signers, L: Ledger>(
     operator: Addr,
     steps: &mut Steps<L>,
 ) -> Result<bool, HookFault>
-    requires accused { accused g.old.ctx e.now (validator_by_cons (S.stake (S.held slasher.old)) e.now.cons) ≡ Some operator }
+    requires accused { accused g.old.ctx e.now
+        (validator_by_cons (S.stake (S.held slasher.old)) e.now.cons) ≡ Some operator }
     requires free { can_be_banned (at cons_cmp (N.infos (N.held signers.old)) e.now.cons) ≡ true }
     requires power { e.now.power * g.old.ctx.params.power_reduction ≤ 10 ^ 18 }
     requires sound { S.sound (S.held slasher.old) }
@@ -141,6 +143,7 @@ fn punish<B: Bank, H: StakingHooks, S: Slasher, N: Signers, L: Ledger>(
     ensures signers { OnOk result (N.sound (N.held signers.new)) }
     ensures stand { OnOk result (Stands (H.holds hooks.new) H.tells (seen B.holdings g.new)
         (lists_of (S.stake (S.held slasher.new)))) }
+
     // Whatever the answer.
     ensures undone { CanBeUndone B.marks g.old g.new }
     ensures bank { B.most_steps g.new.bank ≡ B.most_steps g.old.bank }
