@@ -62,12 +62,6 @@ marked row end place = places_of row place ++ replicate (end - place) false
 pub marked_begun : (row end : ℕ) → replicate end false ≡ marked row end 0
 marked_begun row end = let e : end - 0 ≡ end = omega arith in ap (λ n. replicate n false) (sym e)
 
-pub marked_all : (row end place : ℕ) → end ≤ place → place ≤ end → marked row end place ≡ places_of row end
-marked_all row end place h m =
-    let e : place ≡ end = omega (arith, h, m) in
-    let none : end - place ≡ 0 = omega (arith, h) in
-    ap (λ n. places_of row place ++ replicate n false) none ∙ append-nil (places_of row place) ∙ ap (places_of row) e
-
 -- places of which none is set are passed
 pub marked_none : (row end place next : ℕ) → place ≤ next → next ≤ end → ((p : ℕ) → place ≤ p → p < next → is_set row p ≡ false) → marked row end place ≡ marked row end next
 marked_none row end place next h m none =

@@ -1,6 +1,6 @@
 //! The places of a window of votes in the second format: how many there are, and the missed ones.
 
-ghost use Rattle.std.specs.Prelude.{◌≡◌, ◌<◌, ◌-◌, ◌^◌, ◌++◌, ◌∷◌, [], false, length, replicate, true, Ok, IfErr, IfOk, OnOk};
+ghost use Rattle.std.specs.Prelude.{◌≡◌, ◌<◌, ◌≤◌, ◌+◌, ◌-◌, ◌^◌, ◌++◌, ◌∷◌, [], false, length, replicate, true, Ok, IfErr, IfOk, OnOk};
 ghost use Rattle.std.specs.Int.{w32};
 ghost use Rattle.std.specs.List.{flat_map};
 ghost use Rattle.store_rows.specs.Fields.{four_bytes, missed_from, missed_of, missed_ring_bytes};
@@ -152,6 +152,7 @@ fn push_missed_from(out: &mut Vec<u8>, first: usize, places: &[bool]) -> Result<
 }
 
 /// The same of sixteen places, of which often none was missed.
+#[tactic(auto, using(crate::proofs::MissedLemmas::none_written))]
 fn push_missed_sixteen(
     out: &mut Vec<u8>,
     first: usize,

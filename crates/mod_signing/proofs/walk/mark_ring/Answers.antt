@@ -27,7 +27,7 @@ loop-from-preserved g c =
     let within : from + some ≤ end = omega (arith, c.min-some.ensures, inv.within, inv.all) in
     let marked : put_mid from (from + some - from) c.loop-from.votes c.mark_row.new.votes ≡ ring_marked rows cons end (from + some)
     = row_marked rows cons c.loop-from.votes c.mark_row.new.votes from (from + some - from) end c.row_of-row.result whole (omega (arith, c.min-some.ensures)) (omega (arith, within))
-        inv.marked c.row_of-row.ensures c.mark_row.ensures ∙ ap (λ k. ring_marked rows cons end (from + k)) n in
+    inv.marked c.row_of-row.ensures c.mark_row.ensures ∙ ap (λ k. ring_marked rows cons end (from + k)) n in
     record {
       marked = marked;
       all = ap length marked ∙ ring_marked_length rows cons end (from + some) within;
