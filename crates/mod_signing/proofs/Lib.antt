@@ -4,6 +4,7 @@ pub mod InfoLemmas
 pub mod ItemLemmas
 pub mod LoopLemmas
 pub mod MarkLemmas
+pub mod PlaceLemmas
 pub mod PutLemmas
 pub mod ResizeLemmas
 pub mod ResizedLemmas

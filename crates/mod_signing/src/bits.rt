@@ -71,3 +71,18 @@ pub(crate) fn agree(row: u128, other: u128, places: u64) -> bool
     }
     true
 }
+
+/// The first place from this one on that is set, or the end where none is before it.
+pub(crate) fn next_set(row: u128, from: u64, end: u64) -> u64
+    requires { end ≤ 128 }
+    ensures least { from ≤ end → from ≤ result }
+    ensures most { result ≤ end }
+    ensures before { (place : ℕ) → from ≤ place → place < result → is_set row place ≡ false }
+    ensures here { result < end → is_set row result ≡ true }
+{
+    if from < end {
+        end.min(from + u64::from((row >> from).trailing_zeros()))
+    } else {
+        end
+    }
+}

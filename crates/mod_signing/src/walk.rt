@@ -1,6 +1,6 @@
 //! Rings in rows: read, listed with their infos, compared with those that were settled, and written.
 
-ghost use Rattle.std.specs.Prelude.{◌≡◌, ℕ, ◌++◌, ◌+◌, ◌<◌, ◌≤◌, List, Bool, true, false, Some, length, slice_get, option_map, IfOk, OnOk};
+ghost use Rattle.std.specs.Prelude.{◌≡◌, ℕ, ◌++◌, ◌+◌, ◌<◌, ◌≤◌, List, Bool, true, false, Some, length, replicate, slice_get, option_map, IfOk, OnOk};
 ghost use Rattle.std.specs.List.Sorted.{IsStrictlySortedBy};
 ghost use Rattle.std.specs.Map.{keys_of};
 ghost use Rattle.std.specs.Option.{option_copied};
@@ -14,7 +14,7 @@ ghost use Rattle.mod_signing.specs.Kept.{kept_of};
 ghost use Rattle.mod_signing.specs.Rings.{is_set, places_of, ring_of, row_cmp};
 ghost use Rattle.mod_signing.specs.Items.{items_of, same_info, same_signed, signed_over, signing_gone, signing_item, touched_over};
 
-use crate::bits::{PLACES, agree, is_set, with_place};
+use crate::bits::{PLACES, agree, next_set, with_place};
 use crate::entry::Entry;
 use base_roles::{Item, Listed, RecordFault, SigningInfo};
 use base_table::{Table, TableFault};
@@ -225,25 +225,37 @@ fn ring_of<L: Ledger>(
     ensures { IfOk result (λ ring. ring ≡ ring_of rows.now.entries cons.now places) }
 {
     let mut votes = Vec::new(alloc);
-    let mut from = 0;
-    while from < places {
-        let row = row_of(rows, cons, from / PLACES, steps);
-        let some = PLACES.min(places - from);
-        push_places(&mut votes, row, some)?;
-        from += some;
-    }
+    votes.resize(places as usize, false)?;
+    mark_ring(rows, cons, votes.as_mut_slice(), steps);
     Ok(Listed::of(votes))
 }
 
-/// Appends so many of the first places of a row.
-fn push_places(votes: &mut Vec<bool>, row: u128, places: u64) -> Result<(), TableFault>
-    requires within { places ≤ 128 }
-    ensures { OnOk result (votes.new.items ≡ votes.old.items ++ places_of row places) }
+/// Marks the missed ones of so many of the first places of a ring.
+fn mark_ring<L: Ledger>(rows: &Rows, cons: &ConsAddr, votes: &mut [bool], steps: &mut Steps<L>)
+    requires signed { votes.old ≡ replicate (length votes.old) false }
+    ensures { votes.new ≡ ring_of rows.now.entries cons.now (length votes.old) }
 {
-    for place in 0..places {
-        votes.push(is_set(row, place))?;
+    let mut from = 0;
+    while from < votes.len() {
+        let some = (votes.len() - from).min(PLACES as usize);
+        let row = row_of(rows, cons, (from as u64) / PLACES, steps);
+        mark_row(&mut votes[from..from + some], row);
+        from += some;
     }
-    Ok(())
+}
+
+/// Marks the places that a row has set. It takes a step for each of these alone: most votes were signed.
+fn mark_row(votes: &mut [bool], row: u128)
+    requires few { length votes.old ≤ 128 }
+    requires signed { votes.old ≡ replicate (length votes.old) false }
+    ensures { votes.new ≡ places_of row (length votes.old) }
+{
+    let end = votes.len() as u64;
+    let mut place = next_set(row, 0, end);
+    while place < end {
+        votes[place as usize] = true;
+        place = next_set(row, place + 1, end);
+    }
 }
 
 /// Puts the rows of a ring.

@@ -1,5 +1,5 @@
 -- The missed places of a window, and the window that they make.
-use Rattle.std.proofs.Common.{◌≡◌, ◌∙◌, ℕ, zero, suc, ◌+◌, ◌-◌, ◌<◌, ◌≤◌, ltb, leb, Bool, true, false, List, [], ◌∷◌, ◌++◌, length, get_or, take, drop, replicate, refl, sym, ap, ap₂, append_assoc, arith, flat_map, le-leb, leb-true, lt-ltb, ltb-true, append-nil, length-append, length-take, take_all}
+use Rattle.std.proofs.Common.{◌≡◌, ◌∙◌, ℕ, zero, suc, ◌+◌, ◌-◌, ◌<◌, ◌≤◌, ltb, leb, Bool, true, false, List, [], ◌∷◌, ◌++◌, length, get_or, take, drop, replicate, refl, sym, ap, ap₂, append_assoc, arith, flat_map, le-leb, leb-true, lt-ltb, ltb-true, append-nil, length-append, length-take, take-append-drop, take_all}
 use Rattle.std.{specs.List.AllByRecursion, proofs.lemmas.Bool.{and_from, and_parts}}
 use Rattle.std.proofs.lemmas.List.{drop_all, drop_more, length-replicate, replicate_more, take_more}
 use Rattle.std.proofs.lemmas.Grind.{flat_map-append}
@@ -17,32 +17,32 @@ missed_below n [] limit le = tt
 missed_below n (true ∷ ps) limit le = (omega (arith, le), missed_below (n + 1) ps limit (omega (arith, le)))
 missed_below n (false ∷ ps) limit le = missed_below (n + 1) ps limit (omega (arith, le))
 
--- one place more
-missed_more : (n : ℕ) (ps : List Bool) (b : Bool) → missed_from n (ps ++ b ∷ []) ≡ missed_from n ps ++ missed_from (n + length ps) (b ∷ [])
-missed_more n [] b = let k : n ≡ n + 0 = omega arith in ap (λ (m : ℕ). missed_from m (b ∷ [])) k
-missed_more n (true ∷ ps) b =
+-- the places of a window one part after the other
+missed_parts : (n : ℕ) (ps qs : List Bool) → missed_from n (ps ++ qs) ≡ missed_from n ps ++ missed_from (n + length ps) qs
+missed_parts n [] qs = let k : n ≡ n + 0 = omega arith in ap (λ (m : ℕ). missed_from m qs) k
+missed_parts n (true ∷ ps) qs =
     let k : n + 1 + length ps ≡ n + suc (length ps) = omega arith in
-    ap (λ (ms : List ℕ). n ∷ ms) (missed_more (n + 1) ps b ∙ ap (λ (m : ℕ). missed_from (n + 1) ps ++ missed_from m (b ∷ [])) k)
-missed_more n (false ∷ ps) b =
+    ap (λ (ms : List ℕ). n ∷ ms) (missed_parts (n + 1) ps qs ∙ ap (λ (m : ℕ). missed_from (n + 1) ps ++ missed_from m qs) k)
+missed_parts n (false ∷ ps) qs =
     let k : n + 1 + length ps ≡ n + suc (length ps) = omega arith in
-    missed_more (n + 1) ps b ∙ ap (λ (m : ℕ). missed_from (n + 1) ps ++ missed_from m (b ∷ [])) k
+    missed_parts (n + 1) ps qs ∙ ap (λ (m : ℕ). missed_from (n + 1) ps ++ missed_from m qs) k
 
--- the same at a place of the window
-missed_at : (ps : List Bool) (i : ℕ) (b : Bool) → i < length ps → b ≡ get_or ps i false → missed_of (take (i + 1) ps) ≡ missed_of (take i ps) ++ missed_from i (b ∷ [])
-missed_at ps i b lt is =
-    let k : 0 + length (take i ps) ≡ i = omega (arith, length-take i ps) in
-    ap missed_of (take_more ps i false lt ∙ ap (λ (x : Bool). take i ps ++ x ∷ []) (sym is))
-    ∙ missed_more 0 (take i ps) b
-    ∙ ap (λ (m : ℕ). missed_of (take i ps) ++ missed_from m (b ∷ [])) k
+-- one place more
+missed_at : (n : ℕ) (ps : List Bool) (i : ℕ) (b : Bool) → i < length ps → b ≡ get_or ps i false → missed_from n (take (i + 1) ps) ≡ missed_from n (take i ps) ++ missed_from (n + i) (b ∷ [])
+missed_at n ps i b lt is =
+    let k : n + length (take i ps) ≡ n + i = omega (arith, length-take i ps, lt) in
+    ap (missed_from n) (take_more ps i false lt ∙ ap (λ (x : Bool). take i ps ++ x ∷ []) (sym is))
+    ∙ missed_parts n (take i ps) (b ∷ [])
+    ∙ ap (λ (m : ℕ). missed_from n (take i ps) ++ missed_from m (b ∷ [])) k
 
 -- counted one after the other
 pub counted : (ps : List Bool) (i count more : ℕ) (b : Bool) → i < length ps → b ≡ get_or ps i false → count ≡ length (missed_of (take i ps)) → more ≡ length (missed_from 0 (b ∷ []))
     → count + more ≡ length (missed_of (take (i + 1) ps))
 counted ps i count more b lt is so_far one =
-    let whole = ap length (missed_at ps i b lt is) in
-    omega (arith, whole, so_far, one, one_counted b, length-append (missed_of (take i ps)) (missed_from i (b ∷ [])))
+    let whole = ap length (missed_at 0 ps i b lt is) in
+    omega (arith, whole, so_far, one, one_counted b, length-append (missed_of (take i ps)) (missed_from (0 + i) (b ∷ [])))
   where
-    one_counted : (b : Bool) → length (missed_from 0 (b ∷ [])) ≡ length (missed_from i (b ∷ []))
+    one_counted : (b : Bool) → length (missed_from 0 (b ∷ [])) ≡ length (missed_from (0 + i) (b ∷ []))
     one_counted true = refl
     one_counted false = refl
 
@@ -53,16 +53,37 @@ pub all_counted : (ps : List Bool) (i count : ℕ) → length ps ≤ i → count
 all_counted ps i count le so_far = so_far ∙ ap (λ (qs : List Bool). length (missed_of qs)) (take_all i ps le)
 
 -- written one after the other
-pub one_written : (front out new : List ℕ) (ps : List Bool) (i : ℕ) (b : Bool) → i < length ps → b ≡ get_or ps i false → out ≡ front ++ flat_map four_bytes (missed_of (take i ps))
-    → new ≡ out ++ flat_map four_bytes (missed_from i (b ∷ [])) → new ≡ front ++ flat_map four_bytes (missed_of (take (i + 1) ps))
-one_written front out new ps i b lt is so_far written =
+pub one_written : (front out new : List ℕ) (n : ℕ) (ps : List Bool) (i : ℕ) (b : Bool) → i < length ps → b ≡ get_or ps i false → out ≡ front ++ flat_map four_bytes (missed_from n (take i ps))
+    → new ≡ out ++ flat_map four_bytes (missed_from (n + i) (b ∷ [])) → new ≡ front ++ flat_map four_bytes (missed_from n (take (i + 1) ps))
+one_written front out new n ps i b lt is so_far written =
     written
-    ∙ ap (λ (o : List ℕ). o ++ flat_map four_bytes (missed_from i (b ∷ []))) so_far
-    ∙ append_assoc front (flat_map four_bytes (missed_of (take i ps))) (flat_map four_bytes (missed_from i (b ∷ [])))
-    ∙ ap (λ (o : List ℕ). front ++ o) (sym (flat_map-append four_bytes (missed_of (take i ps)) (missed_from i (b ∷ []))) ∙ ap (flat_map four_bytes) (sym (missed_at ps i b lt is)))
+    ∙ ap (λ (o : List ℕ). o ++ flat_map four_bytes (missed_from (n + i) (b ∷ []))) so_far
+    ∙ append_assoc front (flat_map four_bytes (missed_from n (take i ps))) (flat_map four_bytes (missed_from (n + i) (b ∷ [])))
+    ∙ ap (λ (o : List ℕ). front ++ o) (sym (flat_map-append four_bytes (missed_from n (take i ps)) (missed_from (n + i) (b ∷ []))) ∙ ap (flat_map four_bytes) (sym (missed_at n ps i b lt is)))
 
-pub all_written : (front out : List ℕ) (ps : List Bool) (i : ℕ) → length ps ≤ i → out ≡ front ++ flat_map four_bytes (missed_of (take i ps)) → out ≡ front ++ flat_map four_bytes (missed_of ps)
-all_written front out ps i le so_far = so_far ∙ ap (λ (qs : List Bool). front ++ flat_map four_bytes (missed_of qs)) (take_all i ps le)
+pub all_written : (front out : List ℕ) (n : ℕ) (ps : List Bool) (i : ℕ) → length ps ≤ i → out ≡ front ++ flat_map four_bytes (missed_from n (take i ps)) → out ≡ front ++ flat_map four_bytes (missed_from n ps)
+all_written front out n ps i le so_far = so_far ∙ ap (λ (qs : List Bool). front ++ flat_map four_bytes (missed_from n qs)) (take_all i ps le)
+
+-- where none was missed, none is written
+pub none_written : (out : List ℕ) (n : ℕ) (ps : List Bool) → length (missed_of ps) ≡ 0 → out ≡ out ++ flat_map four_bytes (missed_from n ps)
+none_written out n ps none = sym (ap (λ (ms : List ℕ). out ++ flat_map four_bytes ms) (no_miss n 0 ps none) ∙ append-nil out)
+  where
+    no_miss : (k m : ℕ) (qs : List Bool) → length (missed_from m qs) ≡ 0 → missed_from k qs ≡ []
+    no_miss k m [] e = refl
+    no_miss k m (true ∷ qs) e = absurd cc
+    no_miss k m (false ∷ qs) e = no_miss (k + 1) (m + 1) qs e
+
+-- one part written after the other
+pub part_written : (out new : List ℕ) (n k : ℕ) (left part others : List Bool) (whole : List ℕ) → part ≡ take k left → others ≡ drop k left → length part ≡ k → new ≡ out ++ flat_map four_bytes (missed_from n part)
+    → out ++ flat_map four_bytes (missed_from n left) ≡ whole → new ++ flat_map four_bytes (missed_from (n + k) others) ≡ whole
+part_written out new n k left part others whole is rest size written so_far =
+    let split : part ++ others ≡ left = (λ i. is i ++ rest i) ∙ take-append-drop k left in
+    ap (λ (o : List ℕ). o ++ flat_map four_bytes (missed_from (n + k) others)) written
+    ∙ append_assoc out (flat_map four_bytes (missed_from n part)) (flat_map four_bytes (missed_from (n + k) others))
+    ∙ ap (λ (o : List ℕ). out ++ o) (sym (flat_map-append four_bytes (missed_from n part) (missed_from (n + k) others)))
+    ∙ ap (λ (m : ℕ). out ++ flat_map four_bytes (missed_from n part ++ missed_from (n + m) others)) (sym size)
+    ∙ ap (λ (ms : List ℕ). out ++ flat_map four_bytes ms) (sym (missed_parts n part others) ∙ ap (missed_from n) split)
+    ∙ so_far
 
 -- ---- places that ascend
 

@@ -1,6 +1,6 @@
 //! The places of a window of votes in the second format: how many there are, and the missed ones.
 
-ghost use Rattle.std.specs.Prelude.{◌≡◌, ◌<◌, ◌-◌, ◌^◌, ◌++◌, ◌∷◌, [], false, length, replicate, true, Ok, IfErr, IfOk, OnOk};
+ghost use Rattle.std.specs.Prelude.{◌≡◌, ◌<◌, ◌≤◌, ◌+◌, ◌-◌, ◌^◌, ◌++◌, ◌∷◌, [], false, length, replicate, true, Ok, IfErr, IfOk, OnOk};
 ghost use Rattle.std.specs.Int.{w32};
 ghost use Rattle.std.specs.List.{flat_map};
 ghost use Rattle.store_rows.specs.Fields.{four_bytes, missed_from, missed_of, missed_ring_bytes};
@@ -139,16 +139,49 @@ fn push_if_missed(out: &mut Vec<u8>, place: usize, missed: bool) -> Result<(), A
     if missed { push_len(out, place) } else { Ok(()) }
 }
 
+/// Appends the number of each missed place, the first place being of this number.
+fn push_missed_from(out: &mut Vec<u8>, first: usize, places: &[bool]) -> Result<(), AllocError>
+    requires { first + length places.now ≤ 2 ^ 32 }
+    ensures { OnOk result (out.new.items
+        ≡ out.old.items ++ flat_map four_bytes (missed_from first places.now)) }
+{
+    for (place, missed) in places.iter().enumerate() {
+        push_if_missed(out, first + place, *missed)?;
+    }
+    Ok(())
+}
+
+/// The same of sixteen places, of which often none was missed.
+#[tactic(auto, using(crate::proofs::MissedLemmas::none_written))]
+fn push_missed_sixteen(
+    out: &mut Vec<u8>,
+    first: usize,
+    places: &[bool; 16],
+) -> Result<(), AllocError>
+    requires { first + 16 ≤ 2 ^ 32 }
+    ensures { OnOk result (out.new.items
+        ≡ out.old.items ++ flat_map four_bytes (missed_from first places.now)) }
+{
+    if missed_count(places) == 0 {
+        return Ok(());
+    }
+    push_missed_from(out, first, places)
+}
+
 /// Appends the number of each missed place.
 fn push_each_missed(out: &mut Vec<u8>, places: &[bool]) -> Result<(), AllocError>
     requires { length places.now < 2 ^ 32 }
     ensures { OnOk result (out.new.items
         ≡ out.old.items ++ flat_map four_bytes (missed_of places.now)) }
 {
-    for (place, missed) in places.iter().enumerate() {
-        push_if_missed(out, place, *missed)?;
+    let mut first = 0;
+    let mut left = places;
+    'left: while let Some((sixteen, others)) = left.split_first_chunk::<16>() {
+        push_missed_sixteen(out, first, sixteen)?;
+        first += 16;
+        left = others;
     }
-    Ok(())
+    push_missed_from(out, first, left)
 }
 
 /// Appends a ring of places.

@@ -1,10 +1,16 @@
-use Rattle.std.proofs.Common.{◌∙◌, refl, sym, append-nil}
-use Rattle.store_rows.proofs.MissedLemmas.{all_written, one_written}
+use Rattle.std.proofs.Common.{◌≡◌, length, length-take, arith, ap, refl}
+use Rattle.store_rows.proofs.MissedLemmas.{part_written}
 use Rattle.store_rows.proofs.missed.push_each_missed.Goals as goal
 
-pub loop-place-preserved : goal.loop-place-preserved
-loop-place-preserved c =
-    one_written c.args.out.now.items c.loop-place.out.items c.push_if_missed.new.out.items c.args.places.now c.loop-place.place _ c.loop-place-test.true refl c.loop-place.invariant c.in_ok-push_if_missed.ensures
+pub left-init : goal.left-init
+left-init c = record { written = refl; size = omega arith }
 
-pub returns : goal.returns
-returns c = all_written c.args.out.now.items c.loop-place.out.items c.args.places.now c.loop-place.place c.loop-place-test.false c.loop-place.invariant
+pub left-preserved : goal.left-preserved
+left-preserved c =
+    let parts = c.in-Some.ensures.cases in
+    let sixteen : length c.in-Some.sixteen.now ≡ 16 = omega (arith, ap length parts.0, length-take 16 c.left.left, parts.2) in
+    record {
+      written = part_written c.left.out.items c.push_missed_sixteen.new.out.items c.left.first 16 c.left.left c.in-Some.sixteen.now c.in-Some.others.now _
+          parts.0 parts.1 sixteen c.in_ok-push_missed_sixteen.ensures c.left.invariant.written;
+      size = omega (arith, parts.2, c.left.invariant.size);
+    }
