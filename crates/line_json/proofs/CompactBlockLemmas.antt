@@ -169,11 +169,11 @@ block_read f line height moment time vs es ts votes evidence txs small m h₃ h�
     let whole = whole_is_read line d (deeper (omega arith) begins) in
     ap (λ r. r >>= block_of_tree f) (tree_found line d whole.1 whole.0)
     ∙ read_five {T = Block} (λ x y z o w. record { height = x; time = y; votes = z; evidence = o; txs = w }) _ height _ time _ votes _ evidence _ txs
-        (member_read number_in 61 (codes "height") d (number (unsigned height)) height refl (number_read height small))
-        (member_read (spelled_by moment_of) 62 (codes "time") d (string moment) time refl m)
-        (list_read (vote_of f) 63 (codes "votes") d vs votes refl h₃)
-        (list_read (evidence_of f) 64 (codes "evidence") d es evidence refl h₄)
-        (list_read (tx_of f) 65 (codes "txs") d ts txs refl h₅)
+    (member_read number_in 61 (codes "height") d (number (unsigned height)) height refl (number_read height small))
+    (member_read (spelled_by moment_of) 62 (codes "time") d (string moment) time refl m)
+    (list_read (vote_of f) 63 (codes "votes") d vs votes refl h₃)
+    (list_read (evidence_of f) 64 (codes "evidence") d es evidence refl h₄)
+    (list_read (tx_of f) 65 (codes "txs") d ts txs refl h₅)
 
 pub block_is_compact : {line a₁ z₁ a₂ z₂ a₃ z₃ a₄ z₄ a₅ z₅ rest : List ℕ} (f : Form) (height : ℕ) (moment : List ℕ) (time : ℕ) (votes : List Vote) (evidence : List Evidence) (txs : List Tx)
     → height < 2 ^ 63 → moment_of moment ≡ Some time
@@ -189,13 +189,13 @@ block_is_compact {line} f height moment time votes evidence txs small m e₁ b�
     block_read f line height moment time b₃.elements b₄.elements b₅.elements votes evidence txs small m b₃.reads b₄.reads b₅.reads
     (subst (λ rest. Begins 7 line (block_tree height moment b₃.elements b₄.elements b₅.elements) rest) nothing
     (object_begins e₁
-      (one_more_member (codes "kind") refl refl (deeper (omega arith) (string_begins (codes "block") refl refl refl))
-      (one_more_member (codes "height") refl refl (deeper (omega arith) b₁)
-      (one_more_member (codes "time") refl e₂ (deeper (omega arith) b₂)
-      (one_more_member (codes "votes") refl e₃ (deeper (omega arith) b₃.begins)
-      (one_more_member (codes "evidence") refl e₄ (deeper (omega arith) b₄.begins)
-      (one_more_member (codes "txs") refl e₅ b₅.begins
-      (no_more_members e₆)))))))))
+    (one_more_member (codes "kind") refl refl (deeper (omega arith) (string_begins (codes "block") refl refl refl))
+    (one_more_member (codes "height") refl refl (deeper (omega arith) b₁)
+    (one_more_member (codes "time") refl e₂ (deeper (omega arith) b₂)
+    (one_more_member (codes "votes") refl e₃ (deeper (omega arith) b₃.begins)
+    (one_more_member (codes "evidence") refl e₄ (deeper (omega arith) b₄.begins)
+    (one_more_member (codes "txs") refl e₅ b₅.begins
+    (no_more_members e₆)))))))))
 
 pub block_is_compact_by_name : {line a₁ z₁ a₂ z₂ a₃ z₃ a₄ z₄ a₅ z₅ rest : List ℕ} (f : Form) (height : ℕ) (moment : List ℕ) (time : ℕ) (votes : List Vote) (evidence : List Evidence) (txs : List Tx)
     → height < 2 ^ 63 → moment_of moment ≡ Some time
@@ -211,10 +211,10 @@ block_is_compact_by_name {line} f height moment time votes evidence txs small m 
     block_read f line height moment time b₅.elements b₁.elements b₄.elements votes evidence txs small m b₅.reads b₁.reads b₄.reads
     (subst (λ rest. Begins 7 line (block_tree height moment b₅.elements b₁.elements b₄.elements) rest) nothing
     (object_begins e₁
-      (one_more_member (codes "evidence") refl refl (deeper (omega arith) b₁.begins)
-      (one_more_member (codes "height") refl e₂ (deeper (omega arith) b₂)
-      (one_more_member (codes "kind") refl e₃ (deeper (omega arith) (string_begins (codes "block") refl refl refl))
-      (one_more_member (codes "time") refl refl (deeper (omega arith) b₃)
-      (one_more_member (codes "txs") refl e₄ b₄.begins
-      (one_more_member (codes "votes") refl e₅ (deeper (omega arith) b₅.begins)
-      (no_more_members e₆)))))))))
+    (one_more_member (codes "evidence") refl refl (deeper (omega arith) b₁.begins)
+    (one_more_member (codes "height") refl e₂ (deeper (omega arith) b₂)
+    (one_more_member (codes "kind") refl e₃ (deeper (omega arith) (string_begins (codes "block") refl refl refl))
+    (one_more_member (codes "time") refl refl (deeper (omega arith) b₃)
+    (one_more_member (codes "txs") refl e₄ b₄.begins
+    (one_more_member (codes "votes") refl e₅ (deeper (omega arith) b₅.begins)
+    (no_more_members e₆)))))))))

@@ -1,5 +1,5 @@
 -- Compact texts of coins and of lists, and values of members.
-use Rattle.std.proofs.Common.{◌≡◌, ◌∙◌, ap, sym, subst, refl, arith, ℕ, ◌^◌, ◌<◌, ◌≤◌, List, [], ◌∷◌, ◌++◌, All, Bool, true, false, map, Option, Some, None, option_map, option_and_then, Result, Ok, codes, lt-ltb, append_assoc, length, length-append, if◌then◌else◌}
+use Rattle.std.proofs.Common.{◌≡◌, ◌∙◌, ap, sym, subst, refl, arith, ℕ, ◌^◌, ◌<◌, ◌≤◌, List, [], ◌∷◌, ◌++◌, All, Bool, true, false, map, Option, Some, None, option_map, option_and_then, Result, Ok, codes, decimal, lt-ltb, append_assoc, length, length-append, if◌then◌else◌}
 use Rattle.json.specs.Print.{escape_byte}
 use Rattle.serde_json.specs.Data.{Data, Items, no_items, item, number, unsigned, string, array, object, no_members, put}
 use Rattle.serde_json.specs.{Find.{get, as_array}, Written.compact_text}
@@ -15,7 +15,7 @@ use Rattle.line_json.specs.Coin.{coin_at, coin_of, coins_at, money_of}
 use Rattle.line_json.specs.Compact.{IsCompact, IsCompactCoin, IsCompactList, IsMoneyOf}
 use Rattle.line_json.specs.Reading.{or_fault}
 use Rattle.line_json.specs.{Members.{amount_of, member_at, number_in, spelled_by}, Nested.{each_element, list_at, with_front}}
-use Rattle.line_json.proofs.{BackLemmas.{member_read, next_is, read_two}, CoinLemmas.coins_below}
+use Rattle.line_json.proofs.{BackLemmas.{amount_is_read, member_read, next_is, read_two}, CoinLemmas.coins_below}
 
 -- ---- members
 
@@ -34,6 +34,15 @@ user_read f prefix word bytes user h is = ap (option_and_then user_from) h ∙ s
 -- the address of an account
 pub account_read : (f : Form) (word bytes : List ℕ) (account : Account) → bytes_in f account_prefix word ≡ Some bytes → account ≡ account_from bytes → account_in f word ≡ Some account
 account_read f word bytes account h is = ap (option_map account_from) h ∙ ap Some (sym is)
+
+-- ---- strings
+
+pub word_spelled : {A : Type 0} {text rest : List ℕ} (form : List ℕ → Option A) (bytes word : List ℕ) (value : A) → Begins 0 text (string bytes) rest → word ≡ bytes → Some value ≡ form word
+    → IsSpelled form text value rest
+word_spelled form bytes word value b e h = record { word = bytes; begins = b; spells = ap form (sym e) ∙ sym h }
+
+pub amount_spelled : {text rest : List ℕ} (n : ℕ) → Begins 0 text (string (decimal n)) rest → n < 2 ^ 63 → IsSpelled amount_of text n rest
+amount_spelled n b small = record { word = decimal n; begins = b; spells = amount_is_read n (omega (arith, small)) }
 
 -- ---- lists
 

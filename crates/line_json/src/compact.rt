@@ -13,9 +13,10 @@ ghost use Rattle.line_json.specs.Addresses.{bytes_in};
 ghost use Rattle.line_json.specs.Compact.{IsCompact, IsCompactCoin, IsCompactList, IsMoneyOf};
 ghost use Rattle.line_json.specs.Members.{amount_of};
 
+use crate::addresses::bytes_in;
 use crate::members::amount_of;
 use crate::nested::FromTree;
-use base_bech32::{Form, unspell};
+use base_bech32::Form;
 use base_coins::{Coin, Coins};
 use base_types::{Denom, Moment, read_moment};
 use line_compact::{after, string};
@@ -59,14 +60,24 @@ pub(crate) fn list<T: FromCompact>(
     }
 }
 
+/// The text of bytes that are UTF-8.
+fn text_of(bytes: &[u8]) -> Option<&str>
+    ensures { IfSome result (λ text. text.now ≡ bytes.now) }
+{
+    match std::str::from_utf8(bytes) {
+        Ok(text) => Some(text),
+        Err(_) => None,
+    }
+}
+
 /// The twenty bytes of the spelling that the text begins with, and what follows it.
 fn spelling<'a>(prefix: &str, text: &'a [u8]) -> Option<([u8; 20], &'a [u8])>
     requires { IsTrue (is_prefix prefix.now) }
     ensures { IfSome result (λ found. IsSpelled (bytes_in Bech32 prefix.now) text.now found.0 found.1.now) }
 {
     let (letters, rest) = string(text)?;
-    let word = std::str::from_utf8(letters).ok()?;
-    let bytes = unspell(prefix, word).ok()?;
+    let word = text_of(letters)?;
+    let bytes = bytes_in(Form::Bech32, prefix, word)?;
     Some((bytes, rest))
 }
 
@@ -82,44 +93,67 @@ pub(crate) fn address<'a>(form: Form, prefix: &str, text: &'a [u8]) -> Option<([
     }
 }
 
-/// The moment that a text spells.
+/// The moment that bytes spell.
 pub(crate) fn moment(bytes: &[u8]) -> Option<Moment>
     ensures { IfSome result (λ moment. moment_of bytes.now ≡ Some moment) }
 {
-    let text = std::str::from_utf8(bytes).ok()?;
-    read_moment(text).ok()
+    let text = text_of(bytes)?;
+    match read_moment(text) {
+        Ok(moment) => Some(moment),
+        Err(_) => None,
+    }
+}
+
+/// The amount that a string of any length spells, and what follows it.
+fn long_amount(text: &[u8]) -> Option<(u128, &[u8])>
+    ensures { IfSome result (λ found. IsSpelled amount_of text.now found.0 found.1.now) }
+{
+    let (digits, rest) = string(text)?;
+    let word = text_of(digits)?;
+    let number = amount_of(word)?;
+    Some((number, rest))
 }
 
 /// The whole amount that a string spells, and what follows it.
 fn amount(text: &[u8]) -> Option<(u128, &[u8])>
     ensures { IfSome result (λ found. IsSpelled amount_of text.now found.0 found.1.now) }
 {
-    if let Some((number, rest)) = line_compact::amount(text) {
-        return Some((number, rest));
+    match line_compact::amount(text) {
+        Some((number, rest)) => Some((number, rest)),
+        None => long_amount(text),
     }
-    let (digits, rest) = string(text)?;
-    let word = std::str::from_utf8(digits).ok()?;
-    let number = amount_of(word)?;
-    Some((number, rest))
 }
 
-/// The name of the denomination and the amount of the coin that the text begins with, and what follows it.
-pub(crate) fn coin_parts(text: &[u8]) -> Option<(&[u8], u128, &[u8])>
+fn coin(text: &[u8]) -> Option<(&[u8], u128, &[u8])>
     ensures { IfSome result (λ found. IsCompactCoin text.now found.0.now found.1 found.2.now) }
 {
-    if let Some(at_denom) = after(text, b"{\"denom\":") {
-        let (name, behind_denom) = string(at_denom)?;
-        let at_amount = after(behind_denom, b",\"amount\":")?;
-        let (number, behind_amount) = amount(at_amount)?;
-        let rest = after(behind_amount, b"}")?;
-        return Some((name, number, rest));
-    }
+    let at_denom = after(text, b"{\"denom\":")?;
+    let (name, behind_denom) = string(at_denom)?;
+    let at_amount = after(behind_denom, b",\"amount\":")?;
+    let (number, behind_amount) = amount(at_amount)?;
+    let rest = after(behind_amount, b"}")?;
+    Some((name, number, rest))
+}
+
+fn coin_by_name(text: &[u8]) -> Option<(&[u8], u128, &[u8])>
+    ensures { IfSome result (λ found. IsCompactCoin text.now found.0.now found.1 found.2.now) }
+{
     let at_amount = after(text, b"{\"amount\":")?;
     let (number, behind_amount) = amount(at_amount)?;
     let at_denom = after(behind_amount, b",\"denom\":")?;
     let (name, behind_denom) = string(at_denom)?;
     let rest = after(behind_denom, b"}")?;
     Some((name, number, rest))
+}
+
+/// The name of the denomination and the amount of the coin that the text begins with, and what follows it.
+pub(crate) fn coin_parts(text: &[u8]) -> Option<(&[u8], u128, &[u8])>
+    ensures { IfSome result (λ found. IsCompactCoin text.now found.0.now found.1 found.2.now) }
+{
+    match text.get(2) {
+        Some(b'd') => coin(text),
+        _ => coin_by_name(text),
+    }
 }
 
 impl FromCompact for Coin {
@@ -137,5 +171,8 @@ pub(crate) fn money(coins: Vec<Coin>) -> Option<Coins>
     requires { All (λ c. c.amount < 10 ^ 38) coins.items }
     ensures { IfSome result (IsMoneyOf coins.items) }
 {
-    Coins::of(coins).ok()
+    match Coins::of(coins) {
+        Ok(money) => Some(money),
+        Err(_) => None,
+    }
 }

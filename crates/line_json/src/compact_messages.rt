@@ -211,7 +211,10 @@ fn coin_moved_by_name(form: Form, text: &[u8]) -> Option<(Msg, &[u8])>
         };
         return Some((Msg::Undelegate(undelegate), rest));
     }
-    let at_source = after(behind_delegator, b",\"kind\":\"begin_redelegate\",\"source\":")?;
+    let at_source = after(
+        behind_delegator,
+        b",\"kind\":\"begin_redelegate\",\"source\":",
+    )?;
     let (left, behind_source) = address(form, OPERATOR, at_source)?;
     let source = Addr::of(left)?;
     let at_target = after(behind_source, b",\"target\":")?;
