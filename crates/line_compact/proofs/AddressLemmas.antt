@@ -1,21 +1,47 @@
 -- Addresses between quotes.
-use Rattle.std.proofs.Common.{◌≡◌, ◌∙◌, ap, refl, arith, ℕ, ◌<◌, ◌≤◌, ◌+◌, ◌*◌, ◌%◌, ◌==◌, Bool, true, false, List, [], ◌∷◌, ◌++◌, Option, Some, None, if◌then◌else◌, slice_index, slice_set, map, unwrap_or, take, drop, subst, length, bit_or}
+use Rattle.std.proofs.Common.{◌≡◌, ◌∙◌, ap, sym, refl, arith, ℕ, ◌<◌, ◌≤◌, ◌+◌, ◌*◌, ◌%◌, ◌==◌, Bool, true, false, List, [], ◌∷◌, ◌++◌, Option, Some, None, if◌then◌else◌, slice_index, slice_set, map, unwrap_or, take, drop, subst, length, bit_or}
 use Rattle.std.specs.List.{list_all, range_with_len}
 use Rattle.std.proofs.lemmas.{Bool.Decides.nat_tests, Nat.{le_or_l, le_or_r}, List.FromFn.get_or-map-range_with_len}
 use Rattle.base_types.specs.{Address.{address_of, bytes_of, digit_of}, Maybe.{◌>>=◌}}
-use Rattle.base_types.proofs.DigitLemmas.{after, digit_read, read_step}
-use Rattle.line_compact.specs.{Begins.IsSpelled, Pieces.stands_for_itself, declared.addresses.TheConstants.VALUES}
+use Rattle.base_types.proofs.DigitLemmas.{after, read_step}
+use Rattle.line_compact.specs.{Begins.IsSpelled, Pieces.stands_for_itself, declared.addresses.TheConstants.{HIGH, LOW}}
 use Rattle.line_compact.proofs.BeginLemmas.{string_begins}
 
--- the value of a digit, and 255 for another byte
-abbrev value_or_none : ℕ → ℕ
-value_or_none c = unwrap_or (digit_of c) 255
+-- ---- the tables
 
-values_are : VALUES ≡ map value_or_none (range_with_len 0 256)
-values_are = refl
+-- sixteen times the value of a digit, and 256 for another byte
+abbrev high_or_none : ℕ → ℕ
+high_or_none c = 16 * unwrap_or (digit_of c) 16
 
-pub value_at : (c : ℕ) → c < 256 → slice_index VALUES c ≡ value_or_none c
-value_at c h = ap (λ (l : List ℕ). slice_index l c) values_are ∙ get_or-map-range_with_len value_or_none 0 256 c c 0 h (omega arith)
+-- the value of a digit, and 256 for another byte
+abbrev low_or_none : ℕ → ℕ
+low_or_none c = unwrap_or (digit_of c) 256
+
+highs_are : HIGH ≡ map high_or_none (range_with_len 0 256)
+highs_are = refl
+
+lows_are : LOW ≡ map low_or_none (range_with_len 0 256)
+lows_are = refl
+
+pub high_at : (c : ℕ) → c < 256 → slice_index HIGH c ≡ high_or_none c
+high_at c h = ap (λ (l : List ℕ). slice_index l c) highs_are ∙ get_or-map-range_with_len high_or_none 0 256 c c 0 h (omega arith)
+
+pub low_at : (c : ℕ) → c < 256 → slice_index LOW c ≡ low_or_none c
+low_at c h = ap (λ (l : List ℕ). slice_index l c) lows_are ∙ get_or-map-range_with_len low_or_none 0 256 c c 0 h (omega arith)
+
+pub high_small : (c : ℕ) → unwrap_or (digit_of c) 16 ≤ 16
+high_small c = grind (arith, nat_tests)
+
+pub low_small : (c : ℕ) → unwrap_or (digit_of c) 256 ≤ 256
+low_small c = grind (arith, nat_tests)
+
+-- a value below that of other bytes is that of a digit
+digit_below : (other c v : ℕ) → v ≡ unwrap_or (digit_of c) other → v < other → digit_of c ≡ Some v
+digit_below other c v e h = by (digit_of c) e
+  where
+    by : (o : Option ℕ) → v ≡ unwrap_or o other → o ≡ Some v
+    by None f = absurd (omega arith)
+    by (Some w) f = ap Some (sym f)
 
 -- ---- what stands between the quotes
 
@@ -54,15 +80,16 @@ address_begins {bytes = bytes} digits e f g h = record {
 }
 
 -- two digits more, where all are digits
-pub two_more : (text bytes : List ℕ) (i all h l : ℕ) → 2 * i + 1 < length text → i < length bytes → h ≡ unwrap_or (digit_of (slice_index text (2 * i))) 255
-    → l ≡ unwrap_or (digit_of (slice_index text (2 * i + 1))) 255
-    → (all < 16 → after (take i bytes) (bytes_of (drop (2 * i) text)) ≡ bytes_of text)
-    → bit_or (bit_or all h) l < 16 → after (take (i + 1) (slice_set bytes i (h % 16 * 16 + l % 16))) (bytes_of (drop (2 * (i + 1)) text)) ≡ bytes_of text
-two_more text bytes i all h l within room eh el before small =
-    let some : bit_or all h < 16 = omega (arith, le_or_l (bit_or all h) l, small) in
-    let first : all < 16 = omega (arith, le_or_l all h, some) in
-    let high : h ≤ 15 = omega (arith, le_or_r all h, some) in
-    let low : l ≤ 15 = omega (arith, le_or_r (bit_or all h) l, small) in
-    let value : h * 16 + l ≡ h % 16 * 16 + l % 16 = omega (arith, high, low) in
+pub two_more : (text bytes : List ℕ) (i all high low byte : ℕ) → 2 * i + 1 < length text → i < length bytes → high ≡ 16 * unwrap_or (digit_of (slice_index text (2 * i))) 16
+    → low ≡ unwrap_or (digit_of (slice_index text (2 * i + 1))) 256 → byte ≡ high + low
+    → (all < 256 → after (take i bytes) (bytes_of (drop (2 * i) text)) ≡ bytes_of text)
+    → bit_or all byte < 256 → after (take (i + 1) (slice_set bytes i (byte % 256))) (bytes_of (drop (2 * (i + 1)) text)) ≡ bytes_of text
+two_more text bytes i all high low byte within room eh el sum before small =
+    let first : all < 256 = omega (arith, le_or_l all byte, small) in
+    let fits : byte < 256 = omega (arith, le_or_r all byte, small) in
+    let h = unwrap_or (digit_of (slice_index text (2 * i))) 16 in
+    let below : h < 16 = omega (arith, eh, sum, fits) in
+    let less : low < 256 = omega (arith, sum, fits) in
+    let value : h * 16 + low ≡ byte % 256 = omega (arith, eh, sum, fits) in
     subst (λ v. after (take (i + 1) (slice_set bytes i v)) (bytes_of (drop (2 * (i + 1)) text)) ≡ bytes_of text) value
-    (read_step text bytes i h l within room (digit_read (slice_index text (2 * i)) h eh high) (digit_read (slice_index text (2 * i + 1)) l el low) (before first))
+    (read_step text bytes i h low within room (digit_below 16 (slice_index text (2 * i)) h refl below) (digit_below 256 (slice_index text (2 * i + 1)) low el less) (before first))
