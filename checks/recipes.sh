@@ -8,9 +8,10 @@ set -u
 cd "$(dirname "$0")/.."
 export PYTHONDONTWRITEBYTECODE=1
 . checks/program.bash
+need_program recipes
 bad=0
 python3 - "$built" <<'PYTHON' || bad=1
-import collections, contextlib, functools, io, json, pathlib, re, subprocess, sys, tempfile
+import base64, collections, contextlib, csv, functools, hashlib, io, json, pathlib, re, subprocess, sys, tempfile
 
 ONE = 10 ** 18
 FACTS = ("transfer burn allocated pooled period started slashed paid commission "
@@ -21,7 +22,8 @@ recipes = examples / "recipes"
 life = (examples / "life.out").read_bytes()
 addresses = [number + "07" * 19 for number in ("01", "02", "03", "09")]
 bad = []
-sys.path[:0] = ["checks", str(recipes)]
+package = pathlib.Path("python/src")
+sys.path[:0] = ["checks", str(package)]
 
 import console
 
@@ -49,7 +51,7 @@ def tried_here(words, given=b""):
     sys.argv, sys.stdin = words, io.TextIOWrapper(io.BytesIO(given))
     with contextlib.redirect_stdout(out), contextlib.redirect_stderr(err):
         try:
-            exec(compiled(words[0]), {"__name__": "__main__"})
+            exec(compiled(words[0]), {"__name__": "__main__", "__file__": str(recipes / words[0])})
         except SystemExit as end:
             status = end.code or 0
     return status, out.getvalue().encode(), err.getvalue()
@@ -57,9 +59,10 @@ def tried_here(words, given=b""):
 
 def commands(name, first="0", last="1"):
     """The recipes with their words, for an output that reaches from one height to another."""
-    some = addresses[2:]
-    return [["audit.py", name], ["tax_sheet.py", some[0], name], ["validator_sheet.py", addresses[1], name],
-            ["reconcile.py", first, last, name, *some], ["watch.sh", name]]
+    some, all_known = addresses[2:], "--allow-unknown"
+    return [["audit.py", name], ["tax_sheet.py", some[0], name, all_known],
+            ["validator_sheet.py", addresses[1], name, all_known], ["reconcile.py", first, last, name, *some, all_known],
+            ["watch.sh", name]]
 
 
 def try_all(tries):
@@ -74,7 +77,8 @@ def try_all(tries):
 # ---- the page
 
 shown = passed = 0
-headers = {path.name: path.read_text() for path in recipes.iterdir() if path.suffix in (".py", ".sh")}
+headers = {path.name: path.read_text() for path in recipes.glob("*.sh")}
+headers |= {path.name: path.read_text() for path in package.rglob("*.py") if (recipes / path.name).exists()}
 page = pathlib.Path("docs/RECIPES.md").read_text()
 for command, wanted in console.blocks("docs/RECIPES.md"):
     absent = console.absent_tools(command)
@@ -85,9 +89,9 @@ for command, wanted in console.blocks("docs/RECIPES.md"):
     shown += 1
     fault = console.fault_of(command, wanted)
     ask(not fault, fault)
+ask(headers.keys() == {path.name for path in recipes.iterdir() if path.suffix in (".py", ".sh")},
+    "a script of examples/recipes has no module of its name")
 for name in headers:
-    if name == "lines.py" or name.startswith("node_"):  # what recipes share
-        continue
     ask(f"examples/recipes/{name}" in page, f"the page does not lead to {name}")
     ask("Who wants it:" in headers[name] and "One command:" in headers[name], f"{name} has no header")
 for words in commands(str(examples / "life.out"))[:2]:
@@ -96,6 +100,25 @@ for words in commands(str(examples / "life.out"))[:2]:
     ask(has_front, f"the header of {words[0]} has not the first lines of what comes out")
 
 # ---- whole outputs, and outputs that are not
+
+
+def try_a_day(begun, rest, day):
+    """A day that was resumed, with its own input: behind the report before it its rows are those of the whole run, and alone
+    nothing is drawn that no line tells."""
+    report = b"".join(line for line in begun.splitlines(keepends=True) if b'"height"' not in line)
+    with tempfile.TemporaryDirectory() as room:
+        path, picture = pathlib.Path(room) / "day.jsonl", pathlib.Path(room) / "day.svg"
+        path.write_bytes(day)
+        for words in (["validator_sheet.py", addresses[1]], ["tax_sheet.py", addresses[2]], ["refusals.py"]):
+            whole = tried_here([*words, str(examples / "life.out"), str(examples / "life.jsonl")])[1].splitlines()
+            status, told, err = tried_here([*words, "-", str(path)], report + rest)
+            rows = [row for row in told.splitlines() if re.match(rb"2024-01-(01T00:00:15|22)", row)]
+            ask(status == 0 and rows and rows == whole[-len(rows):] and all(b":10Z" in row or b":05Z" in row for row in whole[1:-len(rows)]),
+                f"{words[0]} on a day behind a report ended with {status}, and its rows are not those of the whole run: {err}")
+        for given, count in ((rest, 1), (report + rest, 3)):
+            status, _, err = tried_here(["validator_sheet.py", addresses[1], "-", str(path), "--svg", str(picture)], given)
+            stake = re.search(r'stroke="#1f77b4" stroke-width="2" points="([^"]*)"', picture.read_text())
+            ask(status == 0 and len(stake[1].split()) == count, f"the picture of a resumed day has a stake of {stake[1]}: {err}")
 
 
 def tries_over_a_store():
@@ -112,6 +135,7 @@ def tries_over_a_store():
         answers = {f"the answer to {' '.join(words)}": ran([*store, "query", *words])[1] for words in asked}
     ask(b"".join(line for line in begun.splitlines(keepends=True) if b'"height"' in line) + rest == life,
         "a run of the example that is resumed does not write what one whole run does")
+    try_a_day(begun, rest, b"".join(given[3:]))
     outputs = {"a run that was resumed": (begun + rest, "0"), "the rest of a run": (rest, "3")}
     return ([(words, output, 0, name) for name, (output, first) in outputs.items() for words in commands("-", first, "5")]
             + [(words, answer, 0, name) for name, answer in answers.items() if answer for words in commands("-")
@@ -191,6 +215,41 @@ following = whole_reports["an output and its continuation"][len(life):]
 status, out, err = tried_here(["reconcile.py", "5", "6", "-", *addresses], answer + following)
 ask(status == 0 and b"report report" in out, f"reconcile.py ended with {status} on answers and what follows: {err}")
 
+status, out, err = tried_here(["reconcile.py", "1", "5", str(examples / "life.out"), addresses[2], "7" * 40, "--allow-unknown"])
+ask(status == 0 and f"{'7' * 40},,0,0,0,0,0,0,0,0,0,0," in out.decode(), f"reconcile.py has no row of zeros: {status} {err}")
+
+# ---- each refusal of each run, with its condition and its message
+
+refused = 0
+for end in sorted([*examples.glob("*.end"), *pathlib.Path("cases").glob("*.end"), *spelled.glob("*.end")]):
+    if end.read_text().split()[0] == "0":
+        out, given = end.with_suffix(".out"), end.with_suffix(".jsonl")
+        told = [line for line in map(json.loads, out.read_text().splitlines()) if line["kind"] == "refused"]
+        status, sheet, err = tried_here(["refusals.py", str(out), str(given)])
+        rows = list(csv.DictReader(io.StringIO(sheet.decode())))
+        refused += len(rows)
+        blocks = {line["height"]: line for line in map(json.loads, given.read_text().splitlines()[1:])}
+        for row, line in zip(rows, told):
+            sent = blocks[line["height"]]["txs"][line["tx"]]
+            kind = sent["msgs"][line["msg"]]["kind"] if "msg" in line else ""
+            wanted = (str(line["height"]), str(line["number"]), kind, sent["payer"])
+            ask((row["height"], row["number"], row["message"], row["payer"]) == wanted and row["name"] and row["condition"],
+                f"refusals.py on {out} has the row {row}")
+        ask(status == 0 and len(rows) == len(told), f"refusals.py on {out} ended with {status} and has {len(rows)} rows: {err}")
+ask(refused > 100, f"only {refused} refusals were tried")
+
+# ---- the hashes of a node's transactions, by the places of their lines
+
+with tempfile.TemporaryDirectory() as room:
+    path, data = pathlib.Path(room) / "hashes.csv", recipes / "data/blocks"
+    status, told, err = tried_here(["from_blocks.py", str(data), "--hashes", str(path)])
+    rows = list(csv.DictReader(io.StringIO(path.read_text())))
+    made = {line["height"]: line["txs"] for line in map(json.loads, told.decode().splitlines())}
+    sent = [(str(height), hashlib.sha256(base64.b64decode(text)).hexdigest().upper()) for height in made
+            for text in json.loads((data / f"block_{height}.json").read_text())["result"]["block"]["data"]["txs"]]
+    ask(sent and [(row["height"], row["hash"]) for row in rows] == sent, f"from_blocks.py has other hashes: {status} {err}")
+    ask(all(made[int(row["height"])][int(row["tx"])]["payer"] for row in rows), "a hash is of no transaction of its line")
+
 # ---- statements beside an output
 
 sheet = ["tax_sheet.py", addresses[2], str(examples / "life.out")]
@@ -199,7 +258,7 @@ plain = tried_here(sheet)[1].decode().splitlines()
 with tempfile.TemporaryDirectory() as room:
     path = pathlib.Path(room) / "statements"
     for made, more, ending in ((statements, 5, 0), (statements[:1], 4, 0), (statements * 2, 5, 0), ([], 0, 0), (["{}\n"], 0, 2),
-                               ([text.replace('"height":2', '"height":3') for text in statements[:1]], 0, 0)):
+                               ([text.replace('"height":2', '"height":3') for text in statements[:1]], 0, 2)):
         path.write_text("".join(made))
         status, out, err = tried_here([*sheet, f"statements={path}"])
         rows = out.decode().splitlines()
@@ -209,7 +268,7 @@ with tempfile.TemporaryDirectory() as room:
 
 # ---- lines that were changed by one unit
 
-import audit
+from stakeplay.sheets import audit
 
 
 def bumped(text, by):

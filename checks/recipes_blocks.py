@@ -205,8 +205,12 @@ def try_ranges() -> int:
     no_next = converted(changed(gone("block_results_4")), "1", "3")[1].splitlines()
     ask(json.loads(no_next[2])["txs"] == [], "what the next block mints is paid where it isn't known")
     ask(no_next[:2] == whole.splitlines()[:2], "results that are missing behind a range change it")
+    for answers in (PLAIN, changed(sent(DEPOSIT, make.moved(ONE, make.GOV, 9))), changed(gone("txs_3"))):
+        for words in ([], ["--at-once"]):
+            alone, beside = converted(answers, *words), converted(answers, *words, "--jobs", "3")
+            ask(alone == beside, f"--jobs writes or tells something else: {beside}, and one process {alone}")
     tries = [(PLAIN, ["2", "9"], "stop height: block_5.json"), ({}, [], "stop height: "),
-             (PLAIN, ["3", "2"], "usage: "), (PLAIN, ["1"], "usage: "),
+             (PLAIN, ["3", "2"], "from_blocks.py: FIRST and LAST "), (PLAIN, ["1"], "from_blocks.py: FIRST and LAST "),
              (changed(gone("block_2")), [], "stop height: block_2.json")]
     for answers, words, wanted in tries:
         status, out, err = converted(answers, *words)
@@ -214,7 +218,7 @@ def try_ranges() -> int:
     recipe = [sys.executable, "examples/recipes/from_blocks.py", "no-such-folder"]
     done = subprocess.run(recipe, capture_output=True, text=True)
     ask(done.returncode == 2 and done.stderr.startswith("stop file: no-such-folder"), f"no folder: {done.stderr}")
-    return 6 + len(tries)
+    return 12 + len(tries)
 
 
 # ---- fetching

@@ -22,11 +22,11 @@ RECIPES = pathlib.Path("examples/recipes")
 DATA = RECIPES / "data"
 BLOCK, RESULTS = str(DATA / "block_1000.json"), str(DATA / "blocks/block_results_1001.json")
 EXPORT, GENESIS = (json.loads((DATA / name).read_text()) for name in ("export_1000.json", "genesis.json"))
-sys.path.insert(0, str(RECIPES))
+sys.path.insert(0, "python/src")
 
-from node_data import (RESERVE, SECOND, bech32, decimal_text, decimal_units, from_bech32, moment_of,  # noqa: E402
-                       moment_text)
-from node_state import read_store, rows_of  # noqa: E402
+from stakeplay.node.data import (RESERVE, SECOND, bech32, decimal_text, decimal_units, from_bech32,  # noqa: E402
+                                 moment_of, moment_text)
+from stakeplay.node.state import read_store, rows_of  # noqa: E402
 
 built = sys.argv[1] if len(sys.argv) > 1 else ""
 place = tempfile.TemporaryDirectory()
@@ -53,7 +53,7 @@ def ran(script, *words):
     sys.argv = [script, *map(str, words)]
     with contextlib.redirect_stdout(out), contextlib.redirect_stderr(err):
         try:
-            exec(compiled(script), {"__name__": "__main__"})
+            exec(compiled(script), {"__name__": "__main__", "__file__": str(RECIPES / script)})
         except SystemExit as end:
             status = end.code or 0
         except Exception:
@@ -70,7 +70,8 @@ def written(document, name="export.json"):
 def loaded(document, *words, head=BLOCK):
     """What from_export.py says of an export, and the rows of the store that it makes; none where none is left."""
     store = room / "tried.db"
-    store.unlink(missing_ok=True)
+    for path in room.glob("tried.db*"):     # a resumed store has a log beside it
+        path.unlink()
     status, out, err = ran("from_export.py", written(document), store, "--head", head, *words)
     left = sorted(path.name for path in room.glob("tried.db*"))
     wanted = ["tried.db"] if status in (0, 1) else []
@@ -232,7 +233,8 @@ REFUSED = [
     ("head", changed(EXPORT, (["initial_height"], "1002"))), ("head", changed(EXPORT, (["chain_id"], "made-2"))),
     ("duration", changed(EXPORT, ("staking.params.unbonding_time", "1.500s"))),
     ("duration", changed(EXPORT, (["consensus_params", "evidence", "max_age_duration"], "1500000000"))),
-    ("limit", changed(EXPORT, ("bank.supply.0.amount", str(10 ** 18 + 1)))),
+    ("limit", changed(EXPORT, ("bank.supply.1.amount", str(10 ** 18 + 1)))),
+    ("limit", changed(EXPORT, (f"bank.balances.{RICH}.coins.0.amount", str(10 ** 18 + 1)))),
     ("limit", changed(EXPORT, ("staking.delegations.0.shares", f"{10 ** 20}.000000000000000000"))),
     ("limit", changed(EXPORT, ("staking.validators.0.unbonding_time", "1969-12-31T23:59:59Z"))),
     ("range", changed(EXPORT, ("staking.params.max_validators", 1001))),
@@ -277,6 +279,7 @@ REFUSED = [
 ]
 LOOKED_AT = [
     ("vesting-account", changed(EXPORT, ("auth.accounts.0", VESTING))), ("surplus", moved(EXPORT, USER, POOL, 5)),
+    ("left-out", changed(EXPORT, ("bank.supply.0.amount", str(10 ** 18 + 1)))),
     ("long-address", changed(EXPORT, (f"bank.balances.{RICH}.address", bech32("cosmos", bytes(range(32)))))),
 ]
 for code, document in REFUSED:
@@ -319,6 +322,97 @@ for wanted, said, document in LINES:
     ask(status == wanted and said in err and bool(out) == (status == 0),
         f"instead of {said or 'a line'}, from_export.py --genesis ended with {status}: {out}{err}")
 line = ran("from_export.py", written(GENESIS, "genesis.json"), "--genesis", "--reserve", "uatom")[1]
+
+# ---- denominations that are left out
+
+VOUCHER, OTHERS = "ibc/" + "18" * 32, sorted(entry["denom"] for entry in EXPORT["app_state"]["bank"]["supply"]
+                                             if entry["denom"] != "uatom")
+
+
+def with_vouchers(document, amount):
+    """An export with vouchers of 18 decimals: an account has such an amount, and the distribution module twice that."""
+    document = copy.deepcopy(document)
+    bank, rewards = document["app_state"]["bank"], document["app_state"]["distribution"]
+    for entry in bank["balances"]:
+        if entry["address"] in (USER, DISTRIBUTION):
+            entry["coins"].append({"denom": VOUCHER, "amount": str(amount * (1 + (entry["address"] == DISTRIBUTION)))})
+    bank["supply"].append({"denom": VOUCHER, "amount": str(3 * amount)})
+
+    def owed(units):
+        return {"denom": VOUCHER, "amount": decimal_text(units)}
+    rewards["fee_pool"]["community_pool"].append(owed(amount * 10 ** 18 + 1))
+    rewards["outstanding_rewards"][0]["outstanding_rewards"].append(owed(amount * 10 ** 18 - 1))
+    rewards["validator_accumulated_commissions"][0]["accumulated"]["commission"].append(owed(10 ** 18))
+    rewards["validator_current_rewards"][0]["rewards"]["rewards"].append(owed(amount * 10 ** 18 // 2))
+    rewards["validator_historical_rewards"][0]["rewards"]["cumulative_reward_ratio"].append(owed(amount * 10 ** 30))
+    return document
+
+
+def moving_vouchers(value):
+    """A node's answer in which vouchers go with each coin that a fee, a send or an event names."""
+    if isinstance(value, list):
+        return [moving_vouchers(part) for part in value]
+    if not isinstance(value, dict):
+        return value
+    value = {name: moving_vouchers(part) for name, part in value.items()}
+    if value.get("key") in ("amount", "fee") and value.get("value"):
+        value["value"] += f",{2 * 10 ** 18}{VOUCHER}"
+    if isinstance(value.get("amount"), list) and value["amount"]:
+        value["amount"].append({"denom": VOUCHER, "amount": str(2 * 10 ** 18)})
+    return value
+
+
+def try_left_out():
+    """Vouchers beside the made chain leave rows, lines and the comparison as they are, and are told."""
+    folder = room / "blocks"
+    folder.mkdir()
+    for path in (DATA / "blocks").iterdir():
+        (folder / path.name).write_text(json.dumps(moving_vouchers(json.loads(path.read_text()))))
+    words = ["--reserve", "uatom", "--next", RESULTS]
+    wanted, lines = loaded(EXPORT, *words)[2], ran("from_blocks.py", DATA / "blocks")[1]
+    document = with_vouchers(EXPORT, 2 * 10 ** 18)
+    status, err, rows = loaded(document, "--reserve", "uatom", "--next", folder / "block_results_1001.json")
+    ask(status == 1 and f"look left-out: export.json: {6 * 10 ** 18} {VOUCHER}\n" in err and rows == wanted,
+        f"vouchers are not left out of an export: {status} {err}")
+    export = written(document, "vouchers.json")
+    status, out, err = ran("from_blocks.py", folder, "--export", export)
+    ask(status == 1 and out == lines and err.count("look left-out") == 1 and VOUCHER in err,
+        f"vouchers are not left out of blocks: {status} {err}")
+    status, out, err = ran("from_blocks.py", folder)
+    ask(status == 2 and not out and "stop limit: " in err and "--only" in err, f"vouchers are taken: {status} {err}")
+    status, err, _ = loaded(document, "--reserve", VOUCHER)
+    ask(status == 2 and "stop left-out: " in err, f"the reserve is to hold what is left out: {status} {err}")
+    status, out, err = ran("from_blocks.py", DATA / "blocks", "--only", VOUCHER)
+    ask(status == 2 and "stop left-out: " in err, f"the staked denomination is left out: {status} {err}")
+    status, _, err = ran("from_blocks.py", folder, "--only", "1x")
+    ask(status == 2 and "no denomination: 1x" in err, f"what is no denomination is taken: {status} {err}")
+    genesis = changed(GENESIS, ("bank.balances.0.coins.+", {"denom": VOUCHER, "amount": str(2 * 10 ** 18)}), ("bank.supply", []))
+    status, out, err = ran("from_export.py", written(genesis, "genesis.json"), "--genesis", "--reserve", "uatom")
+    ask(status == 1 and out == line and f"look left-out: genesis.json: {2 * 10 ** 18} {VOUCHER}" in err,
+        f"vouchers are not left out of a genesis document: {status} {err}")
+    return folder
+
+
+def try_chain_of(folder, only):
+    """The chain with vouchers from its export on: the blocks lead to the later export, but for what is left out."""
+    words, more = (["--only", only], ["--only", only]) if only else ([], ["--export", room / "vouchers.json"])
+    status, lines, err = ran("from_blocks.py", folder, *more)
+    ask(status == 1 and "look left-out" in err, f"from_blocks.py ended with {status}: {err}")
+    status, err, _ = loaded(with_vouchers(EXPORT, 2 * 10 ** 18), "--reserve", "uatom", "--next", RESULTS, *words)
+    ask(status == 1 and err.count("look left-out") == (1 if only is None else 1 + len(OTHERS)),
+        f"from_export.py ended with {status}: {err}")
+    asked([room / "tried.db", "resume"], lines)
+    later = with_vouchers(json.loads((DATA / "export_1003.json").read_text()), 10 ** 18)
+    after = ["--next", DATA / "blocks/block_results_1004.json"]
+    status, out, err = ran("compare_export.py", room / "tried.db", written(later, "later.json"), *after, *words)
+    ask(status == 0 and not out and f"note left-out: later.json: {3 * 10 ** 18} {VOUCHER}" in err,
+        f"the blocks do not lead from one export with vouchers to the other: {status} {out}{err}")
+    status, text, err = ran("to_export.py", room / "tried.db", *after, "--only", "uatom")
+    ask(status == (only is None) and not any(denom in text for denom in OTHERS),
+        f"to_export.py ended with {status}, and leaves nothing out: {err}")
+
+
+voucher_blocks = try_left_out()
 
 # ---- anything in the place of a member
 
@@ -363,6 +457,8 @@ if built:
                            "--next", DATA / "blocks/block_results_1004.json")
     ask(status == 0, f"the blocks do not lead from one export to the other: {status} {out}{err}")
     asked(["-", "replay"], line)
+    for only in (None, "uatom"):
+        try_chain_of(voucher_blocks, only)
 else:
     print("recipes: what the program makes of exports is passed over, since it is not built")
 

@@ -11,7 +11,7 @@ import re
 import sys
 
 TOP = pathlib.Path(__file__).resolve().parent.parent
-PAGES = ("*.md", "docs/*.md", "bench/*.md", "cases/*.md", "examples/**/*.md", "crates/*/README.md")
+PAGES = ("*.md", "docs/*.md", "bench/*.md", "cases/*.md", "examples/**/*.md", "python/*.md", "crates/*/README.md")
 WIDTH = 120
 ITEM = re.compile(r"(\s*)(- |\d+\. )")
 STAYS = ("|", "#", "<", "!", "    ")
