@@ -22,7 +22,7 @@ ONLY, NEVER = "only", "never"
 INVARIANTS = [
     ("Values know no rules", "base_", ONLY, "base_", {}),
     ("Definitions know no modules", "rule_", ONLY, "base_ rule_", {"rule_worked": "law_rewards"}),
-    ("Laws know no chain", "law_", NEVER, "chain_ line_ run_", {"law_lines": "line_json line_statements"}),
+    ("Laws know no chain", "law_", NEVER, "chain_ line_ run_", {"law_lines": "line_json line_statements line_compact"}),
     ("Only the laws of records know modules", "law_", NEVER, "mod_ store_",
      {"law_records": "mod_sums mod_staking mod_periods mod_allocation mod_signing mod_distribution "
                      "store_records store_soundness",

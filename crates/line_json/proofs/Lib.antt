@@ -1,5 +1,8 @@
 pub mod BackLemmas
 pub mod CoinLemmas
+pub mod CompactBlockLemmas
+pub mod CompactLemmas
+pub mod CompactMessageLemmas
 pub mod EndLemmas
 pub mod KeptLemmas
 pub mod ListLemmas

@@ -1,6 +1,7 @@
 pub mod Addresses
 pub mod Block
 pub mod Coin
+pub mod Compact
 pub mod Facts
 pub mod Genesis
 pub mod Line

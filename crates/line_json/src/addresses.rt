@@ -16,7 +16,7 @@ pub(crate) const OPERATOR: &str = "cosmosvaloper";
 pub(crate) const CONS: &str = "cosmosvalcons";
 
 /// The twenty bytes of a text, which has this prefix where it is a spelling.
-fn bytes_in(form: Form, prefix: &str, text: &str) -> Option<[u8; 20]>
+pub(crate) fn bytes_in(form: Form, prefix: &str, text: &str) -> Option<[u8; 20]>
     requires { IsTrue (is_prefix prefix.now) }
     ensures { result ≡ bytes_in form prefix.now text.now }
 {

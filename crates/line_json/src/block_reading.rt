@@ -3,6 +3,7 @@ ghost use Rattle.line_json.specs.Reading.{Gives};
 ghost use Rattle.line_json.specs.Block.{block_of};
 
 use crate::coin_reading::coins_at;
+use crate::compact_block::compact_block;
 use crate::members::{cons_at, member_at, only_named, user_at, word_at};
 use crate::nested::{FromTree, list_at};
 use crate::reading::read_line;
@@ -114,5 +115,8 @@ pub fn read_block(
 ) -> Result<Block, LineFault>
     ensures { Gives (λ block. block) result (block_of form line.now) }
 {
+    if let Some(block) = compact_block(form, alloc, line) {
+        return Ok(block);
+    }
     read_line(form, alloc, scratch, line)
 }

@@ -2,12 +2,15 @@
 //!
 //! What a line means is the tree that `serde_json` reads from it, of which each member has its number and its form.
 //! It is walked on a tape of the line's tokens; a tape that holds a number which is no count, or too many brackets, is
-//! left for the tree itself. A line is written member by member, without a tree, in ascending order of their names.
+//! left for the tree itself. The line of a block is tried as compact text first, which most are: then no tape is made. A line is written member by member, without a tree, in ascending order of their names.
 #![tactic(auto)]
 
 mod addresses;
 mod block_reading;
 mod coin_reading;
+mod compact;
+mod compact_block;
+mod compact_messages;
 mod count;
 mod facts;
 mod genesis_reading;

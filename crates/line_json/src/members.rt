@@ -61,7 +61,7 @@ fn is_amount(text: &str) -> bool
 }
 
 /// The whole amount that 1 to 38 digits spell.
-fn amount_of(text: &str) -> Option<u128>
+pub(crate) fn amount_of(text: &str) -> Option<u128>
     ensures { result ≡ amount_of text.now }
 {
     if is_amount(text) {

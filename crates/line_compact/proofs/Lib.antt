@@ -1,0 +1,4 @@
+pub mod AddressLemmas
+pub mod BeginLemmas
+pub mod PieceLemmas
+pub mod ReadLemmas
