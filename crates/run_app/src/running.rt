@@ -1,20 +1,20 @@
 //! The commands: `run` reads the words of one, carries it out over a source, a sink and a keeper, and tells by a status
 //! how it ended.
 
-ghost use Rattle.std.specs.Prelude.{◌≡◌, ◌≤◌, ◌<◌, ◌^◌, ◌+◌, ◌⊎◌, [], ◌∷◌, List, ℕ, Some, None, length, map, string_bytes, true, false, IfErr, OnOk, IfOk, IfSome};
+ghost use Rattle.std.specs.Prelude.{◌≡◌, ◌≤◌, ◌<◌, ◌^◌, ◌+◌, ◌⊎◌, [], ◌∷◌, List, ℕ, Option, Some, None, length, map, string_bytes, true, false, MatchResult};
 ghost use Rattle.base_bech32.specs.declared.form.Form.{Form};
 ghost use Rattle.base_io.specs.Outside.{Rose};
-ghost use Rattle.run_app.specs.Counts.{IsOfWords, Moved, is_keep_fault, is_read_fault, is_write_fault};
-ghost use Rattle.run_app.specs.Lines.{last_line};
-ghost use Rattle.run_app.specs.Kept.{Began, IsLater, Keeping, LeftIn};
-ghost use Rattle.run_app.specs.Machine.{longest, Standing};
+ghost use Rattle.run_app.specs.Counts.{IsOfWords, Moved, ReadMoved, every_of, is_keep_fault, is_read_fault, is_write_fault};
+ghost use Rattle.run_app.specs.Kept.{Began, Keeping, LeftIn};
+ghost use Rattle.run_app.specs.Machine.{Standing};
 ghost use Rattle.run_words.specs.Words.{command_of};
 ghost use Rattle.run_app.specs.Commands.{CommandEnds, CommandStops, CommandUnkept, IsUntroubledBy};
 ghost use Rattle.run_app.specs.Modes.{HasFewBlocks, ModeEnds, ReplayEnds};
 ghost use Rattle.store_history.specs.Held.{TakesDistinct};
 ghost use Rattle.run_app.specs.Unkept.{ModeUnkept};
 ghost use Rattle.run_app.specs.Outcome.{HasBegun, RunEnds, most_bytes};
-ghost use Rattle.run_app.specs.Parts.{FinishStatus, Stands};
+ghost use Rattle.run_app.specs.Parts.{EndsSo, Fed, HasStopped, IsPaused, Pauses, Stands, ending_of, is_keep, is_read, is_write};
+ghost use Rattle.run_app.specs.Told.{Told};
 ghost use Rattle.rule_machine.specs.Promises.{AllTransactionsEnd, ClaimsAreBracketed, ShortfallsAreBounded};
 ghost use Rattle.law_soundness.specs.Going.{RunsGoSoundly};
 ghost use Rattle.law_lines.specs.Runs.{RunsAreWritten};
@@ -28,14 +28,16 @@ ghost use Rattle.run_app.specs.Laws.{AnswersAreReplays, LinesAreReplayed};
 ghost use Rattle.run_app.specs.Seen.{by_keeper, by_sink, by_source};
 
 use crate::checking::check_all;
-use crate::feeding::{Progress, feed};
+use crate::feeding::feed;
 use crate::finishing::finish;
 use crate::generating::{write_generated, write_trial};
-use crate::line::{Buffers, LONGEST};
+use crate::line::{LONGEST, take_line};
 use crate::performing::perform;
+use crate::progress::{Ending, Progress};
+use crate::releasing::release;
 use crate::resuming::{answer, resume};
 use crate::stating::state_all;
-use crate::status::{LimitKind, Status, status_at_end, status_of, status_of_words};
+use crate::status::{LimitKind, LineStop, Status, status_of, status_of_words};
 use crate::tallying::tally;
 use base_bech32::Form;
 use base_io::{KeepFault, Keeper, Sink, Source, read_at_most};
@@ -73,200 +75,286 @@ pub(crate) fn room(taken: u64) -> usize
     }
 }
 
-/// The input was read to its end.
-fn end<K: Sink, D: Keeper>(
+/// Where a line stopped a run: it has no answer, and those before it may wait; or what waited is lost, and the run ends by
+/// this status.
+fn ending_of(stop: LineStop) -> Result<Ending, Status>
+    ensures { result ≡ ending_of stop }
+{
+    match stop {
+        LineStop::BadInput(_, _) | LineStop::Long(_) | LineStop::Ratio(_, _) => {
+            Ok(Ending::Before(status_of(stop)))
+        }
+        LineStop::Write | LineStop::Keep | LineStop::NoMemory => Err(status_of(stop)),
+    }
+}
+
+/// The input was read to its end: a last line that came without its end is taken, where there is one.
+fn last_line<K: Sink, D: Keeper>(
     form: Form,
     alloc: Global,
-    buffers: &mut Buffers,
+    every: u64,
+    scratch: &mut Scratch,
     sink: &mut K,
     keeper: &mut D,
     progress: &mut Progress,
-) -> Status
-    requires short { length progress.old.line.items ≤ longest }
-    requires kept { (b : Began) × (s : Standing) × Keeping b progress.old.chain
-        (D.rows keeper.old) (D.is_honest keeper.old) (D.may_leave keeper.old) s }
-    ensures status { (b : Began) → (s : Standing) → Keeping b progress.old.chain
-        (D.rows keeper.old) (D.is_honest keeper.old) (D.may_leave keeper.old) s
-        → FinishStatus form
+) -> Result<Ending, Status>
+    requires number { progress.old.number < 2 ^ 63 }
+    requires every { 0 < every }
+    requires fed { (b : Began) × (taken : List ℕ) × (end : Standing) × (from : Option (List ℕ))
+        × Fed form every b taken end progress.old.number
+        progress.old.line.items progress.old.chain progress.old.waiting progress.old.held.items
+        from (K.written sink.old)
+        (D.rows keeper.old) (D.is_honest keeper.old) (D.may_leave keeper.old) }
+    ensures ends { (b : Began) → (taken : List ℕ) → (end : Standing) → (from : Option (List ℕ))
+        → length taken ≤ most_bytes
+        → Fed form every b taken end progress.old.number
+        progress.old.line.items progress.old.chain progress.old.waiting progress.old.held.items
+        from (K.written sink.old)
+        (D.rows keeper.old) (D.is_honest keeper.old) (D.may_leave keeper.old)
+        → MatchResult result (IsPaused form taken []
+        (λ lines last. Stands form every b lines last progress.new.number progress.new.chain
+        progress.new.waiting progress.new.held.items from (K.written sink.new)
+        (D.rows keeper.new) (D.is_honest keeper.new) (D.may_leave keeper.new)))
+        (EndsSo form every b.first
         (LeftIn b (D.rows keeper.new) (D.is_honest keeper.new) (D.may_leave keeper.new))
-        progress.old.number s (last_line progress.old.line.items)
-        (K.written sink.old) (K.written sink.new) result }
-    ensures begun { HasBegun result }
-    ensures read { is_read_fault result ≡ false }
-    ensures sink_later { K.faults sink.old ≤ K.faults sink.new }
-    ensures writes { Moved (is_write_fault result) (K.faults sink.old) (K.faults sink.new)
-        × (result ≡ Status.Done → K.clean sink.new ≡ true) }
-    ensures keeper_later { IsLater (D.is_honest keeper.old) (D.is_honest keeper.new)
-        (D.faults keeper.old) (D.faults keeper.new) }
-    ensures keeps { Moved (is_keep_fault result) (D.faults keeper.old) (D.faults keeper.new) }
+        taken [] from (K.written sink.new)) }
+    ensures stopped { HasStopped result }
+    ensures read { is_read result ≡ false }
+    ensures writes { Moved (is_write result) (K.faults sink.old) (K.faults sink.new) }
+    ensures keeps { Moved (is_keep result) (D.faults keeper.old) (D.faults keeper.new) }
+    ensures honest { D.is_honest keeper.new → D.is_honest keeper.old }
 {
-    match finish(
-        form,
-        alloc,
-        buffers,
-        sink,
-        keeper,
-        progress.number,
-        &mut progress.chain,
-        &progress.line,
-    ) {
-        Ok(()) => Status::Done,
-        Err(stop) => status_at_end(stop),
+    if progress.line.is_empty() {
+        return Ok(Ending::End);
+    }
+    match take_line(form, alloc, every, scratch, sink, keeper, progress) {
+        Ok(()) => Ok(Ending::End),
+        Err(stop) => ending_of(stop),
+    }
+}
+
+/// As many bytes were taken as an input may have: what waits is released, and then a byte more is asked for.
+fn at_limit<S: Source, K: Sink, D: Keeper>(
+    form: Form,
+    alloc: Global,
+    every: u64,
+    scratch: &mut Scratch,
+    source: &mut S,
+    sink: &mut K,
+    keeper: &mut D,
+    progress: &mut Progress,
+) -> Result<Ending, Status>
+    requires number { progress.old.number < 2 ^ 63 }
+    requires every { 0 < every }
+    requires fed { (b : Began) × (taken : List ℕ) × (end : Standing) × (from : Option (List ℕ))
+        × Fed form every b taken end progress.old.number
+        progress.old.line.items progress.old.chain progress.old.waiting progress.old.held.items
+        from (K.written sink.old)
+        (D.rows keeper.old) (D.is_honest keeper.old) (D.may_leave keeper.old) }
+    ensures ends { (b : Began) → (taken : List ℕ) → (end : Standing) → (from : Option (List ℕ))
+        → (first : Option (List ℕ)) → length taken ≡ most_bytes
+        → Told first taken (S.left source.old)
+        → Fed form every b taken end progress.old.number
+        progress.old.line.items progress.old.chain progress.old.waiting progress.old.held.items
+        from (K.written sink.old)
+        (D.rows keeper.old) (D.is_honest keeper.old) (D.may_leave keeper.old)
+        → MatchResult result (Pauses form first (S.left source.new)
+        (λ lines last. Stands form every b lines last progress.new.number progress.new.chain
+        progress.new.waiting progress.new.held.items from (K.written sink.new)
+        (D.rows keeper.new) (D.is_honest keeper.new) (D.may_leave keeper.new)))
+        (RunEnds form every b.first
+        (LeftIn b (D.rows keeper.new) (D.is_honest keeper.new) (D.may_leave keeper.new))
+        first (S.left source.new) from (K.written sink.new)) }
+    ensures stopped { HasStopped result }
+    ensures reads { Moved (is_read result) (S.faults source.old) (S.faults source.new) }
+    ensures writes { Moved (is_write result) (K.faults sink.old) (K.faults sink.new) }
+    ensures keeps { Moved (is_keep result) (D.faults keeper.old) (D.faults keeper.new) }
+    ensures honest { D.is_honest keeper.new → D.is_honest keeper.old }
+{
+    if let Err(stop) = release(alloc, sink, keeper, progress) {
+        return Err(status_of(stop));
+    }
+    let mut piece = [0u8; 1];
+    match read_at_most(source, &mut piece, 1) {
+        Err(_) => Err(Status::ReadFault),
+        Ok(0) => last_line(form, alloc, every, scratch, sink, keeper, progress),
+        Ok(_) => {
+            if piece[0] != b'\n' && progress.line.len() == LONGEST {
+                Err(Status::Limit(progress.number, LimitKind::Line))
+            } else {
+                Err(Status::Limit(progress.number, LimitKind::Input))
+            }
+        }
     }
 }
 
 /// Takes the source to its end, from where a run begins. What was led on stays the caller's, so that no way out of
 /// the loop has a chain to let go of.
+///
+/// The error is the status by which the run ends at once: where lines are lost that waited, or where none wait.
 fn take_all<S: Source, K: Sink, D: Keeper>(
     form: Form,
     alloc: Global,
-    buffers: &mut Buffers,
+    every: u64,
+    scratch: &mut Scratch,
     source: &mut S,
     sink: &mut K,
     keeper: &mut D,
     progress: &mut Progress,
-) -> Status
+) -> Result<Ending, Status>
     requires number { progress.old.number ≡ 1 }
     requires line { progress.old.line.items ≡ [] }
-    requires kept { (b : Began) × (s : Standing) × Keeping b progress.old.chain
-        (D.rows keeper.old) (D.is_honest keeper.old) (D.may_leave keeper.old) s }
-    ensures ends { (b : Began) → (s : Standing) → Keeping b progress.old.chain
-        (D.rows keeper.old) (D.is_honest keeper.old) (D.may_leave keeper.old) s
-        → RunEnds form s
+    requires none { progress.old.waiting ≡ 0 }
+    requires empty { progress.old.held.items ≡ [] }
+    requires every { 0 < every }
+    requires kept { (b : Began) × Keeping b progress.old.chain
+        (D.rows keeper.old) (D.is_honest keeper.old) (D.may_leave keeper.old) b.first b.first }
+    ensures ends { (b : Began) → Keeping b progress.old.chain
+        (D.rows keeper.old) (D.is_honest keeper.old) (D.may_leave keeper.old) b.first b.first
+        → MatchResult result (Pauses form (S.left source.old) (S.left source.new)
+        (λ lines last. Stands form every b lines last progress.new.number progress.new.chain
+        progress.new.waiting progress.new.held.items (K.written sink.old) (K.written sink.new)
+        (D.rows keeper.new) (D.is_honest keeper.new) (D.may_leave keeper.new)))
+        (RunEnds form every b.first
         (LeftIn b (D.rows keeper.new) (D.is_honest keeper.new) (D.may_leave keeper.new))
-        (S.left source.old) (S.left source.new) (K.written sink.old) (K.written sink.new) result }
-    ensures begun { HasBegun result }
-    ensures reads { Moved (is_read_fault result) (S.faults source.old) (S.faults source.new) }
-    ensures writes { Moved (is_write_fault result) (K.faults sink.old) (K.faults sink.new)
-        × (result ≡ Status.Done → K.clean sink.new ≡ true) }
-    ensures later { IsLater (D.is_honest keeper.old) (D.is_honest keeper.new)
-        (D.faults keeper.old) (D.faults keeper.new) }
-    ensures keeps { Moved (is_keep_fault result) (D.faults keeper.old) (D.faults keeper.new) }
+        (S.left source.old) (S.left source.new) (K.written sink.old) (K.written sink.new)) }
+    ensures stopped { HasStopped result }
+    ensures reads { Moved (is_read result) (S.faults source.old) (S.faults source.new) }
+    ensures writes { Moved (is_write result) (K.faults sink.old) (K.faults sink.new) }
+    ensures keeps { Moved (is_keep result) (D.faults keeper.old) (D.faults keeper.new) }
+    ensures honest { D.is_honest keeper.new → D.is_honest keeper.old }
 {
     let mut piece = [0u8; PIECE];
     let mut taken = 0u64;
     while taken < MOST {
         match read_at_most(source, &mut piece, room(taken)) {
-            Err(_) => return Status::ReadFault,
-            Ok(0) => return end(form, alloc, buffers, sink, keeper, progress),
+            Err(_) => return Ok(Ending::Before(Status::ReadFault)),
+            Ok(0) => return last_line(form, alloc, every, scratch, sink, keeper, progress),
             Ok(n) => {
-                if let Err(stop) = feed(form, alloc, buffers, sink, keeper, progress, &piece[..n]) {
-                    return status_of(stop);
+                let bytes = &piece[..n];
+                if let Err(stop) = feed(form, alloc, every, scratch, sink, keeper, progress, bytes) {
+                    return ending_of(stop);
                 }
                 taken += n as u64;
             }
         }
     }
-    match read_at_most(source, &mut piece, 1) {
-        Err(_) => Status::ReadFault,
-        Ok(0) => end(form, alloc, buffers, sink, keeper, progress),
-        Ok(_) => {
-            if piece[0] != b'\n' && progress.line.len() == LONGEST {
-                Status::Limit(progress.number, LimitKind::Line)
-            } else {
-                Status::Limit(progress.number, LimitKind::Input)
-            }
-        }
-    }
+    at_limit(form, alloc, every, scratch, source, sink, keeper, progress)
 }
 
-/// Runs the machine over all lines of the source, from where this chain stands.
+/// Runs the machine over all lines of the source, from where this chain stands: what they lead to is committed at each Nth block,
+/// and where no more lines are taken, before any status is told.
 pub(crate) fn drive<S: Source, K: Sink, D: Keeper>(
     form: Form,
     alloc: Global,
+    every: u64,
     source: &mut S,
     sink: &mut K,
     keeper: &mut D,
     chain: Option<Chain>,
 ) -> Status
-    requires kept { (b : Began) × (s : Standing) × Keeping b chain
-        (D.rows keeper.old) (D.is_honest keeper.old) (D.may_leave keeper.old) s }
-    ensures ends { (b : Began) → (s : Standing) → Keeping b chain
-        (D.rows keeper.old) (D.is_honest keeper.old) (D.may_leave keeper.old) s
-        → RunEnds form s
+    requires every { 0 < every }
+    requires kept { (b : Began) × Keeping b chain
+        (D.rows keeper.old) (D.is_honest keeper.old) (D.may_leave keeper.old) b.first b.first }
+    ensures ends { (b : Began) → Keeping b chain
+        (D.rows keeper.old) (D.is_honest keeper.old) (D.may_leave keeper.old) b.first b.first
+        → RunEnds form every b.first
         (LeftIn b (D.rows keeper.new) (D.is_honest keeper.new) (D.may_leave keeper.new))
         (S.left source.old) (S.left source.new) (K.written sink.old) (K.written sink.new) result }
     ensures begun { HasBegun result }
-    ensures reads { Moved (is_read_fault result) (S.faults source.old) (S.faults source.new) }
+    ensures reads { ReadMoved every result (S.faults source.old) (S.faults source.new) }
     ensures writes { Moved (is_write_fault result) (K.faults sink.old) (K.faults sink.new)
         × (result ≡ Status.Done → K.clean sink.new ≡ true) }
-    ensures later { IsLater (D.is_honest keeper.old) (D.is_honest keeper.new)
-        (D.faults keeper.old) (D.faults keeper.new) }
     ensures keeps { Moved (is_keep_fault result) (D.faults keeper.old) (D.faults keeper.new) }
+    ensures honest { D.is_honest keeper.new → D.is_honest keeper.old }
 {
     let mut progress = Progress {
         number: 1,
         line: Vec::new(alloc),
         chain,
+        waiting: 0,
+        held: Vec::new(alloc),
     };
-    let mut buffers = Buffers {
-        scratch: Scratch::new(alloc),
-        text: Vec::new(alloc),
-    };
-    take_all(
+    let mut scratch = Scratch::new(alloc);
+    let ending = match take_all(
         form,
         alloc,
-        &mut buffers,
+        every,
+        &mut scratch,
         source,
         sink,
         keeper,
         &mut progress,
-    )
+    ) {
+        Ok(ending) => ending,
+        Err(status) => return status,
+    };
+    if let Err(stop) = release(alloc, sink, keeper, &mut progress) {
+        return status_of(stop);
+    }
+    match ending {
+        Ending::Before(status) => status,
+        Ending::End => finish(form, alloc, sink, &progress.chain),
+    }
 }
 
 /// The command `replay`: a run that begins on no rows.
 fn replay<S: Source, K: Sink, D: Keeper>(
     form: Form,
     alloc: Global,
+    every: u64,
     source: &mut S,
     sink: &mut K,
     keeper: &mut D,
 ) -> Status
-    ensures ends { ReplayEnds form (by_source S.left source.old source.new)
+    requires every { 0 < every }
+    ensures ends { ReplayEnds form every (by_source S.left source.old source.new)
         (by_sink K.written sink.old sink.new)
         (by_keeper D.rows D.is_honest D.may_leave keeper.old keeper.new) result }
     ensures busy { result ≡ Status.Usage → ⊥ }
     // A keeper that keeps nothing is never refused.
     ensures unkept { D.keeps keeper.old ≡ false → result ≡ Status.WrongStore false → ⊥ }
-    ensures reads { Moved (is_read_fault result) (S.faults source.old) (S.faults source.new) }
+    ensures reads { ReadMoved every result (S.faults source.old) (S.faults source.new) }
     ensures writes { Moved (is_write_fault result) (K.faults sink.old) (K.faults sink.new)
         × (result ≡ Status.Done → K.clean sink.new ≡ true) }
     ensures keeps { Moved (is_keep_fault result) (D.faults keeper.old) (D.faults keeper.new) }
     ensures honest { D.is_honest keeper.new → D.is_honest keeper.old }
 {
     match has_rows(keeper) {
-        Ok(false) => drive(form, alloc, source, sink, keeper, None),
+        Ok(false) => drive(form, alloc, every, source, sink, keeper, None),
         Ok(true) => Status::WrongStore(false),
         Err(KeepFault::Failed) => Status::KeepFault,
         Err(KeepFault::NoMemory) => Status::NoMemory,
     }
 }
 
-/// Carries out a command, as its own words say.
+/// Carries out a command, as its own words say. Of those that commit it is at each Nth block.
 pub(crate) fn carry_out<S: Source, K: Sink, D: Keeper>(
     form: Form,
     alloc: Global,
+    every: u64,
     mode: Mode,
     source: &mut S,
     sink: &mut K,
     keeper: &mut D,
 ) -> Status
+    requires every { 0 < every }
     requires few { HasFewBlocks mode }
-    ensures ends { ModeEnds form mode (by_source S.left source.old source.new)
+    ensures ends { ModeEnds form every mode (by_source S.left source.old source.new)
         (by_sink K.written sink.old sink.new)
         (by_keeper D.rows D.is_honest D.may_leave keeper.old keeper.new) result }
     ensures busy { result ≡ Status.Usage → ⊥ }
     ensures unkept { D.keeps keeper.old ≡ false → ModeUnkept mode
         (by_source S.left source.old source.new) (by_sink K.written sink.old sink.new) result }
-    ensures reads { Moved (is_read_fault result) (S.faults source.old) (S.faults source.new) }
+    ensures reads { ReadMoved every result (S.faults source.old) (S.faults source.new) }
     ensures writes { Moved (is_write_fault result) (K.faults sink.old) (K.faults sink.new)
         × (result ≡ Status.Done → K.clean sink.new ≡ true) }
     ensures keeps { Moved (is_keep_fault result) (D.faults keeper.old) (D.faults keeper.new) }
     ensures honest { D.is_honest keeper.new → D.is_honest keeper.old }
 {
     match mode {
-        Mode::Replay => replay(form, alloc, source, sink, keeper),
-        Mode::Resume => resume(form, alloc, source, sink, keeper),
+        Mode::Replay => replay(form, alloc, every, source, sink, keeper),
+        Mode::Resume => resume(form, alloc, every, source, sink, keeper),
         Mode::Query(what) => answer(form, alloc, sink, keeper, &what),
         Mode::Tally => tally(form, alloc, source, sink, keeper),
         Mode::Check => check_all(form, alloc, source, sink),
@@ -347,14 +435,16 @@ pub fn run<S: Source, K: Sink, D: Keeper>(
         → CommandUnkept (command_of (map string_bytes words.now))
         (by_source S.left source.old source.new) (by_sink K.written sink.old sink.new) result }
     // Whatever the status, a stop leaves the rows after a front of the lines that holds each line of which a byte was
-    // written, and at most one line more.
+    // written, and at most N lines more, where N is the number of `every`, and else 1.
     ensures stops { CommandStops (command_of (map string_bytes words.now)) (S.left source.old)
         (K.written sink.old) (K.written sink.new) (D.rows keeper.old)
         (D.is_honest keeper.new) (D.may_leave keeper.old) (D.may_leave keeper.new) }
     // Usage is of words that are no command, and every other status but want of memory of words that are one.
     ensures usage { IsOfWords (command_of (map string_bytes words.now)) result }
-    // A fault has its cause, and there is none without it; at Done all was handed on.
-    ensures reads { Moved (is_read_fault result) (S.faults source.old) (S.faults source.new) }
+    // A fault has its cause, and there is none without it; at Done all was handed on. Behind `every` a later fault may be told in
+    // place of the source's.
+    ensures reads { ReadMoved (every_of (command_of (map string_bytes words.now))) result
+        (S.faults source.old) (S.faults source.new) }
     ensures writes { Moved (is_write_fault result) (K.faults sink.old) (K.faults sink.new)
         × (result ≡ Status.Done → K.clean sink.new ≡ true) }
     ensures keeps { Moved (is_keep_fault result) (D.faults keeper.old) (D.faults keeper.new) }

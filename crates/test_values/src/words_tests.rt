@@ -27,6 +27,7 @@ fn hex(mode: Mode) -> Result<Command, WordsFault> {
     Ok(Command {
         form: Form::Hex,
         keep: false,
+        every: 1,
         past: None,
         mode,
     })
@@ -37,6 +38,7 @@ fn bech32(mode: Mode) -> Result<Command, WordsFault> {
     Ok(Command {
         form: Form::Bech32,
         keep: false,
+        every: 1,
         past: None,
         mode,
     })
@@ -47,6 +49,7 @@ fn kept(form: Form, mode: Mode) -> Result<Command, WordsFault> {
     Ok(Command {
         form,
         keep: true,
+        every: 1,
         past: None,
         mode,
     })
@@ -57,6 +60,7 @@ fn past(form: Form, height: u64, what: Query) -> Result<Command, WordsFault> {
     Ok(Command {
         form,
         keep: false,
+        every: 1,
         past: Some(height),
         mode: Mode::Query(what),
     })
