@@ -116,11 +116,18 @@ at_first b o told honest leaves s t is k =
 -- ---- what is committed next
 
 -- what a keeper holds of a chain may be followed by what the chain keeps
-pub next_held : (b : Began) (x : Chained) (told : Option (List Pair)) (honest : Type 0) (leaves : List Pair → Type 0) (s t : Standing) → Keeping b (Some x) told honest leaves s t → HasGrown s t
+held_next : (b : Began) (x : Chained) (told : Option (List Pair)) (honest : Type 0) (leaves : List Pair → Type 0) (s t : Standing) → Keeping b (Some x) told honest leaves s t → HasGrown s t
     → (p : State) × (q : State) × StandsFor x.settled p × StandsFor x.kept q × HasRisen p q × Holds (items_of p) told
-next_held b x told honest leaves None t k grown = absurd k.same
-next_held b x told honest leaves (Some p) None k grown = absurd k.stands
-next_held b x told honest leaves (Some p) (Some q) k grown = (p, q, k.same, k.stands, grown, k.held)
+held_next b x told honest leaves None t k grown = absurd k.same
+held_next b x told honest leaves (Some p) None k grown = absurd k.stands
+held_next b x told honest leaves (Some p) (Some q) k grown = (p, q, k.same, k.stands, grown, k.held)
+
+pub next_held : (b : Began) (o : Option Chained) (x : Chained) (told : Option (List Pair)) (honest : Type 0) (leaves : List Pair → Type 0) (s t : Standing) → o ≡ Some x → Keeping b o told honest leaves s t → HasGrown s t
+    → (p : State) × (q : State) × StandsFor x.settled p × StandsFor x.kept q × HasRisen p q × Holds (items_of p) told
+next_held b o x told honest leaves s t is k grown = held_next b x told honest leaves s t (subst (λ (c : Option Chained). Keeping b c told honest leaves s t) is k) grown
+
+pub stands_at : (o : Option Chained) (x : Chained) (t : Standing) → o ≡ Some x → StandsAt o t → StandsAt (Some x) t
+stands_at o x t is stands = subst (λ (c : Option Chained). StandsAt c t) is stands
 
 -- before the genesis there is nothing to commit
 pub none_kept : (b : Began) (o : Option Chained) (told : Option (List Pair)) (honest : Type 0) (leaves : List Pair → Type 0) (s t : Standing) → o ≡ None → Keeping b o told honest leaves s t → Keeping b o told honest leaves t t

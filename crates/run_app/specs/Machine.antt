@@ -45,11 +45,6 @@ pub record Answer : Type 0 where
   pub text : List ℕ
   pub standing : Standing
 
--- the line has an answer with this text, and what it leads to is so
-abbrev pub AnswersTo : Result Answer LineStop → List ℕ → (Standing → Type 0) → Type 0
-AnswersTo due text P =
-    (next : Standing) × (due ≡ Ok (record { text = text; standing = next })) × P next
-
 -- the line has an answer, whose text came behind these bytes, and what it leads to is so
 abbrev pub HoldsAnswer : Result Answer LineStop → List ℕ → List ℕ → (Standing → Type 0) → Type 0
 HoldsAnswer due held held' P =
