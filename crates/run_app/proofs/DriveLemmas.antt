@@ -18,7 +18,7 @@ use Rattle.run_app.specs.Told.{TakesFrom, Told}
 use Rattle.run_app.proofs.CutLemmas.{lines-append}
 use Rattle.run_app.proofs.PartLemmas.{last-some, last-none, long_at}
 use Rattle.run_app.proofs.RunLemmas.{ran-append}
-use Rattle.run_app.proofs.WaitLemmas.{all_written, loses_more, start_waits}
+use Rattle.run_app.proofs.WaitLemmas.{all_written, loses_more, stands_fewer, stands_more, start_waits}
 
 abbrev pub TookBytes : ℕ → List ℕ → Option (List ℕ) → Option (List ℕ) → Type 0
 TookBytes m piece left left' = IfSome left (λ bytes. Takes m bytes piece left')
@@ -71,6 +71,22 @@ fed_first form every b number line chain waiting held w told honest leaves some 
   line_is = empty;
   short = rw empty (omega arith);
 }
+
+module _ (form : Form) (every : ℕ) (b : Began) (taken : List ℕ) (end : Standing) (number : ℕ) (line : List ℕ) (chain : Option Chained) (waiting : ℕ) (held : List ℕ) (from w : Option (List ℕ)) (told : Option (List Pair)) (honest : Type 0) (leaves : List Pair → Type 0) (k : Fed form every b taken end number line chain waiting held from w told honest leaves) where
+  pub fed_more : Fed form (every + 1) b taken end number line chain waiting held from w told honest leaves
+  fed_more = record { stands = stands_more form every b (whole_from [] taken) end number chain waiting held from w told honest leaves k.stands; line_is = k.line_is; short = k.short }
+
+  -- what waited was released
+  pub fed_released : (number' : ℕ) (line' : List ℕ) (chain' : Option Chained) (waiting' : ℕ) (held' : List ℕ) (w' : Option (List ℕ)) (told' : Option (List Pair)) (honest' : Type 0) (leaves' : List Pair → Type 0) → line' ≡ line → Stands form 1 b (whole_from [] taken) end number' chain' waiting' held' from w' told' honest' leaves'
+      → Fed form 1 b taken end number' line' chain' waiting' held' from w' told' honest' leaves'
+  fed_released number' line' chain' waiting' held' w' told' honest' leaves' same stands = record { stands = stands; line_is = same ∙ k.line_is; short = rw same k.short }
+
+-- where none wait fewer do
+pub fed_fewer : (form : Form) (every : ℕ) (b : Began) (taken : List ℕ) (end : Standing) (number : ℕ) (line : List ℕ) (chain : Option Chained) (waiting : ℕ) (held : List ℕ) (from w : Option (List ℕ)) (told : Option (List Pair)) (honest : Type 0) (leaves : List Pair → Type 0) → 0 < every → Fed form 1 b taken end number line chain waiting held from w told honest leaves
+    → Fed form every b taken end number line chain waiting held from w told honest leaves
+fed_fewer form every b taken end number line chain waiting held from w told honest leaves some k =
+    let few : waiting < 1 = k.stands.waits.few in
+    record { stands = stands_fewer form 1 b (whole_from [] taken) end number chain waiting held from w told honest leaves every (omega (arith, few, some)) k.stands; line_is = k.line_is; short = k.short }
 
 -- ---- lines that are lost end a run
 
@@ -133,6 +149,12 @@ ends_from form every first L left left' from w taken rest status told h = (taken
 
 -- ---- as many bytes were taken as an input may have
 
+-- what waited was lost
+pub limit_lost : (form : Form) (every : ℕ) (s0 : Standing) (L : Standing → Standing → Type 0) (taken : List ℕ) (first left from w : Option (List ℕ)) (why : LineStop) → length taken ≡ most_bytes → Told first taken left → Loses form every s0 L (whole_from [] taken) from w why → RunEnds form every s0 L first left from w (status_of why)
+limit_lost form every s0 L taken first left from w why full told h =
+    let r = told_rest first taken left told in
+    ends_from form every s0 L first left from w taken r.0 (status_of why) r.1 (loses_ends form every s0 L taken r.0 (whole_from [] taken) from w why (omega (arith, full)) (inl refl) h)
+
 -- what waited was released
 module _ (form : Form) (every : ℕ) (b : Began) (taken : List ℕ) (end : Standing) (number : ℕ) (line : List ℕ) (chain : Option Chained) (waiting : ℕ) (held : List ℕ) (from w : Option (List ℕ)) (told : Option (List Pair)) (honest : Type 0) (leaves : List Pair → Type 0) (full : length taken ≡ most_bytes) (k : Fed form 1 b taken end number line chain waiting held from w told honest leaves) (first : Option (List ℕ)) where
   abbrev L : Standing → Standing → Type 0
@@ -183,6 +205,11 @@ module _ (form : Form) (every : ℕ) (b : Began) (taken : List ℕ) (end : Stand
         )
 
 -- ---- what waited was released
+
+-- some lines were answered
+pub pause_first : (form : Form) (left left' : Option (List ℕ)) (W : List (List ℕ) → Standing → Type 0) (e : Ending) → Pauses form left left' W e → (lines : List (List ℕ)) × (end : Standing) × W lines end
+pause_first form left left' W ending.End p = (lines_of p.0, p.5, p.6)
+pause_first form left left' W (ending.Before status) p = (p.3.lines, p.3.end, p.3.waits)
 
 -- or it was lost
 module _ (form : Form) (every : ℕ) (first : Standing) (L : Standing → Standing → Type 0) (W : List (List ℕ) → Standing → Type 0) (left left' from w : Option (List ℕ)) (why : LineStop) (lost : (lines : List (List ℕ)) (end : Standing) → W lines end → Loses form every first L lines from w why) where

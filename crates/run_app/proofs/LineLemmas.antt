@@ -17,7 +17,7 @@ use Rattle.run_app.specs.declared.status.LineStop.TheVariants as stop
 use Rattle.run_app.specs.Counts.{Moved}
 use Rattle.run_app.specs.Kept.{Began, Keeping, LeftIn}
 use Rattle.run_app.specs.Machine.{Answer, HoldsAnswer, SettledAt, Standing, StandsAt, block_answer, genesis_answer, line_answer, longest}
-use Rattle.run_app.specs.Parts.{Grows, IsFault, IsOfKeeper, IsOfSink, LongOnly, Loses, PartStops, Stands, UnlessNoMemory, is_keep_stop, not_kept}
+use Rattle.run_app.specs.Parts.{IsFault, IsLoss, IsOfKeeper, IsOfSink, LongOnly, Loses, PartStops, Stands, UnlessNoMemory, is_keep_stop, is_write_stop, not_kept}
 use Rattle.run_app.proofs.AnswerLemmas.{block_fits, first_fits}
 use Rattle.run_app.proofs.KeepLemmas.{at_first, at_some, led_on, left_of, was_kept, was_unkept}
 use Rattle.run_app.proofs.PartLemmas.{fault_stops, lost_stops}
@@ -66,13 +66,14 @@ sink_long stop.Write line of = tt
 sink_long stop.Keep line of = tt
 sink_long stop.NoMemory line of = tt
 
-loses_long : (form : Form) (every : ℕ) (first : Standing) (L : Standing → Standing → Type 0) (lines : List (List ℕ)) (from w : Option (List ℕ)) (line : List ℕ) (why : LineStop) → Loses form every first L lines from w why → LongOnly why line
-loses_long form every first L lines from w line (stop.BadInput m fault) h = tt
-loses_long form every first L lines from w line (stop.Long m) h = absurd h
-loses_long form every first L lines from w line (stop.Ratio m over) h = tt
-loses_long form every first L lines from w line stop.Write h = tt
-loses_long form every first L lines from w line stop.Keep h = tt
-loses_long form every first L lines from w line stop.NoMemory h = tt
+pub loss_long : (r : Result ⊤ LineStop) (line : List ℕ) → IfErr r IsLoss → IfErr r (λ why. LongOnly why line)
+loss_long (Ok x) line of = tt
+loss_long (Err (stop.BadInput m fault)) line of = absurd of
+loss_long (Err (stop.Long m)) line of = absurd of
+loss_long (Err (stop.Ratio m over)) line of = absurd of
+loss_long (Err stop.Write) line of = tt
+loss_long (Err stop.Keep) line of = tt
+loss_long (Err stop.NoMemory) line of = tt
 
 pub not_kept_is : (f : KeepFault) → IsOfKeeper (not_kept f)
 not_kept_is keep.Failed = tt
@@ -93,6 +94,14 @@ fault_moved (stop.Ratio m over) due count of = refl
 fault_moved stop.Write due count of = absurd of
 fault_moved stop.Keep due count of = absurd of
 fault_moved stop.NoMemory due count of = refl
+
+pub fault_unwritten : {X : Type 0} (why : LineStop) (due : Result Answer LineStop) (count : ℕ) → IsFault why due → Moved (is_write_stop {X = X} (Err why)) count count
+fault_unwritten (stop.BadInput m fault) due count of = refl
+fault_unwritten (stop.Long m) due count of = absurd of
+fault_unwritten (stop.Ratio m over) due count of = refl
+fault_unwritten stop.Write due count of = absurd of
+fault_unwritten stop.Keep due count of = absurd of
+fault_unwritten stop.NoMemory due count of = refl
 
 -- ---- no chain is there yet
 
@@ -225,7 +234,3 @@ module _ (form : Form) (every : ℕ) (b : Began) (lines : List (List ℕ)) (end 
 pub loses_stops : (form : Form) (every : ℕ) (first : Standing) {X : Type 0} (L : Standing → Standing → Type 0) (W : List (List ℕ) → Standing → Type 0) (all : X → List (List ℕ)) (ended : List (List ℕ)) (from w : Option (List ℕ)) (r : Result ⊤ LineStop) → IfErr r (Loses form every first L ended from w) → IfErr r (PartStops form every first L W all ended from w)
 loses_stops form every first L W all ended from w (Ok x) h = tt
 loses_stops form every first L W all ended from w (Err why) h = lost_stops form every first L W all ended from w why h
-
-pub loses_long_only : (form : Form) (every : ℕ) (first : Standing) (L : Standing → Standing → Type 0) (lines : List (List ℕ)) (from w : Option (List ℕ)) (line : List ℕ) (r : Result ⊤ LineStop) → IfErr r (Loses form every first L lines from w) → IfErr r (λ why. LongOnly why line)
-loses_long_only form every first L lines from w line (Ok x) h = tt
-loses_long_only form every first L lines from w line (Err why) h = loses_long form every first L lines from w line why h

@@ -1,5 +1,6 @@
 -- One line, one end of a line, one piece of the input, and the end of the input.
-use Rattle.std.proofs.Common.{inl, inr, ◌≡◌, ◌∙◌, ℕ, ◌+◌, ◌<◌, ◌≤◌, Bool, true, false, ◌==◌, cond, lt-ltb, List, [], ◌∷◌, ◌++◌, length, take, drop, slice_index, Option, Some, None, Err, IfSome, IfNone, refl, sym, ap, subst, append_assoc, arith, length-append, append-nil, take-append-drop}
+use Rattle.std.proofs.Common.{inl, inr, ◌≡◌, ◌∙◌, ℕ, ◌+◌, ◌<◌, ◌≤◌, Bool, true, false, ◌==◌, cond, lt-ltb, List, [], ◌∷◌, ◌++◌, length, take, drop, slice_index, Option, Some, None, Result, Ok, Err, IfErr, IfSome, IfNone, OnOk, refl, sym, ap, subst, append_assoc, arith, length-append, append-nil, take-append-drop}
+use Rattle.std.specs.Prelude.{⊤}
 use Rattle.memchr.specs.Find.{IsFirstByte, is_byte}
 use Rattle.base_bech32.specs.declared.form.Form.{Form}
 use Rattle.base_io.specs.{Outside.Rose, Rows.Pair}
@@ -181,8 +182,12 @@ pub parted : (rest : List ℕ) (i : ℕ) → drop i rest ≡ 10 ∷ drop (i + 1)
 parted rest i e = sym (take-append-drop i rest) ∙ ap (λ (t : List ℕ). take i rest ++ t) e ∙ sym (append_assoc (take i rest) (10 ∷ []) (drop (i + 1) rest))
 
 -- all of the piece but the rest was taken
-pub taken_on : (taken piece done rest : List ℕ) (i : ℕ) → piece ≡ done ++ rest → drop i rest ≡ 10 ∷ drop (i + 1) rest → piece ≡ (done ++ (take i rest ++ 10 ∷ [])) ++ drop (i + 1) rest
-taken_on taken piece done rest i are e = are ∙ ap (λ (t : List ℕ). done ++ t) (parted rest i e) ∙ sym (append_assoc done (take i rest ++ 10 ∷ []) (drop (i + 1) rest))
+pub taken_on : (piece done rest : List ℕ) (i : ℕ) → piece ≡ done ++ rest → drop i rest ≡ 10 ∷ drop (i + 1) rest → piece ≡ (done ++ (take i rest ++ 10 ∷ [])) ++ drop (i + 1) rest
+taken_on piece done rest i are e = are ∙ ap (λ (t : List ℕ). done ++ t) (parted rest i e) ∙ sym (append_assoc done (take i rest ++ 10 ∷ []) (drop (i + 1) rest))
+
+-- the line that ends now, and what is behind it
+pub rest_of : (piece done rest : List ℕ) (i : ℕ) → piece ≡ done ++ rest → drop i rest ≡ 10 ∷ drop (i + 1) rest → piece ≡ done ++ ((take i rest ++ 10 ∷ []) ++ drop (i + 1) rest)
+rest_of piece done rest i are e = are ∙ ap (λ (t : List ℕ). done ++ t) (parted rest i e)
 
 -- what stops a part of the piece stops the piece
 pub piece_stops : (form : Form) (every : ℕ) (first : Standing) (L : Standing → Standing → Type 0) (W : List (List ℕ) → Standing → Type 0) (taken piece done now behind : List ℕ) (from w : Option (List ℕ)) (why : LineStop) → piece ≡ done ++ (now ++ behind)
@@ -192,6 +197,23 @@ piece_stops form every first L W taken piece done now behind from w why are h =
     stops_more form every first L W (λ (more : List ℕ). lines_of (((taken ++ done) ++ now) ++ more)) (λ (more : List ℕ). lines_of ((taken ++ piece) ++ more)) (λ more. behind ++ more) (whole_from [] ((taken ++ done) ++ now)) (whole_from (rest_from [] ((taken ++ done) ++ now)) behind) (whole_from [] (taken ++ piece)) from w why
     (λ more. ap (λ (t : List ℕ). lines_of (t ++ more)) whole ∙ ap lines_of (append_assoc ((taken ++ done) ++ now) behind more))
     (ap (whole_from []) whole ∙ whole-append ((taken ++ done) ++ now) [] behind) h
+
+-- what is behind the last end begins the next line, or stops the piece
+module _ (form : Form) (every : ℕ) (b : Began) (taken piece done rest : List ℕ) (end : Standing) (n : ℕ) (line : List ℕ) (chain : Option Chained) (waiting : ℕ) (held : List ℕ) (from w : Option (List ℕ)) (told : Option (List Pair)) (honest : Type 0) (leaves : List Pair → Type 0) where
+  pub rest_fed : (line' : List ℕ) (r : Result ⊤ LineStop) → piece ≡ done ++ rest → HasNoEnd rest → Fed form every b (taken ++ done) end n line chain waiting held from w told honest leaves → OnOk r (line' ≡ line ++ rest) → OnOk r (length line' ≤ longest)
+      → OnOk r ((next : Standing) × Fed form every b (taken ++ piece) next n line' chain waiting held from w told honest leaves)
+  rest_fed line' (Err why) are none k is short = tt
+  rest_fed line' (Ok x) are none k is short =
+      let whole : taken ++ piece ≡ (taken ++ done) ++ rest = ap (λ (t : List ℕ). taken ++ t) are ∙ sym (append_assoc taken done rest) in
+      (end, rw whole (bytes_fed form every b (taken ++ done) end n chain waiting held from w told honest leaves rest line line' none is short k))
+
+  pub piece_extends : (r : Result ⊤ LineStop) → piece ≡ done ++ rest → HasNoEnd rest → Fed form every b (taken ++ done) end n line chain waiting held from w told honest leaves → IfErr r (λ why. NotExtended why n line rest)
+      → IfErr r (PartStops form every b.first (LeftIn b told honest leaves) (λ lines last. Stands form every b lines last n chain waiting held from w told honest leaves) (λ (more : List ℕ). lines_of ((taken ++ piece) ++ more)) (whole_from [] (taken ++ piece)) from w)
+  piece_extends (Ok x) are none k h = tt
+  piece_extends (Err why) are none k h =
+      piece_stops form every b.first (LeftIn b told honest leaves) (λ lines last. Stands form every b lines last n chain waiting held from w told honest leaves) taken piece done (rest ++ []) [] from w why
+      (are ∙ ap (λ (t : List ℕ). done ++ t) (sym (append-nil rest) ∙ sym (append-nil (rest ++ []))))
+      (extend_stops form every b (taken ++ done) rest [] end n line chain waiting held from w told honest leaves why k none h)
 
 -- no more lines end than there are bytes, so the number fits
 pub piece_number : (taken piece done rest : List ℕ) (n n' : ℕ) → piece ≡ done ++ rest → n ≡ 1 + length (whole_from [] taken) → n' ≡ 1 + length (whole_from [] (taken ++ done)) → n' + length rest ≤ n + length piece

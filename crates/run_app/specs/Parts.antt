@@ -211,6 +211,13 @@ IsOfKeeper stop.Keep = Unit {0}
 IsOfKeeper stop.NoMemory = Unit {0}
 IsOfKeeper _ = ⊥
 
+-- a stop at which what waited is lost
+abbrev pub IsLoss : LineStop → Type 0
+IsLoss stop.Write = Unit {0}
+IsLoss stop.Keep = Unit {0}
+IsLoss stop.NoMemory = Unit {0}
+IsLoss _ = ⊥
+
 -- the fact holds, unless memory was wanting
 abbrev pub UnlessNoMemory : LineStop → Type 0 → Type 0
 UnlessNoMemory stop.NoMemory P = Unit {0}

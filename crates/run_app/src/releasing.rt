@@ -6,7 +6,7 @@ ghost use Rattle.base_io.specs.Calls.{AddsPart};
 ghost use Rattle.run_app.specs.Counts.{Moved};
 ghost use Rattle.run_app.specs.Kept.{Began, HasGrown, Keeping, LeftIn};
 ghost use Rattle.run_app.specs.Machine.{Standing};
-ghost use Rattle.run_app.specs.Parts.{IsOfKeeper, IsOfSink, Loses, Stands, is_keep_stop, is_write_stop, not_kept};
+ghost use Rattle.run_app.specs.Parts.{IsLoss, IsOfKeeper, IsOfSink, Loses, Stands, is_keep_stop, is_write_stop, not_kept};
 
 use crate::progress::Progress;
 use crate::status::LineStop;
@@ -121,6 +121,7 @@ pub(crate) fn release<K: Sink, D: Keeper>(
         (LeftIn b (D.rows keeper.new) (D.is_honest keeper.new) (D.may_leave keeper.new))
         lines from (K.written sink.new)) }
     ensures some { OnErr result (0 < progress.old.waiting) }
+    ensures loss { IfErr result IsLoss }
     ensures number { progress.new.number ≡ progress.old.number }
     ensures line { progress.new.line.items ≡ progress.old.line.items }
     ensures writes { Moved (is_write_stop result) (K.faults sink.old) (K.faults sink.new) }
@@ -172,6 +173,7 @@ pub(crate) fn settle<K: Sink, D: Keeper>(
     // No sooner.
     ensures waits { progress.old.waiting < every → length progress.old.held.items < 2 ^ 20
         → progress.new.waiting ≡ progress.old.waiting }
+    ensures loss { IfErr result IsLoss }
     ensures number { progress.new.number ≡ progress.old.number }
     ensures line { progress.new.line.items ≡ progress.old.line.items }
     ensures writes { Moved (is_write_stop result) (K.faults sink.old) (K.faults sink.new) }
