@@ -1,6 +1,6 @@
 #!/usr/bin/env bash
 # Runs the program with these arguments, standard input passed on. Of these the first that there is runs, and what runs is
-# said on standard error unless it is the first:
+# said on standard error unless it is the first (the checks name the program that they try, by the variable STAKEPLAY):
 #   1. the program that was built here (by `.ci/run`, or by `rt run` in crates/stakeplay), where no source is newer;
 #   2. the released program (release/), for x86-64 Linux, where the sources are those that it was built from;
 #   3. the kit's interpreter over the sources, which proves nothing, is slow, and writes at most 1 MiB.
@@ -49,6 +49,10 @@ TEXT
 if [ $# -eq 0 ] || [ "$1" = --help ] || [ "$1" = -h ]; then
     usage
     exit 0
+fi
+
+if [ -n "${STAKEPLAY:-}" ]; then
+    exec "$STAKEPLAY" "$@"
 fi
 
 # 1. what was built here

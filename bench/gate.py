@@ -17,6 +17,7 @@
 rt ci says what it has done and not how long it took. So while it runs, its checks are looked at four times a second: a
 check's time begins when it is first seen and ends when it is gone. Of the check that a crate's edits begin with, the files
 that it writes are looked at too: a module's time is that since the one before was written.
+Edits are those of must-fail/ and, where the command tries them, of wrong-bodies/.
 """
 import collections
 import os
@@ -62,6 +63,9 @@ def task_of(pid):
     if "--crate-name" not in words or words[1] not in ("check", "build"):
         return None
     crate = words[words.index("--crate-name") + 1]
+    of_function = re.search(r"/wrong-body-(\w+)-", where)
+    if of_function:
+        return "edit", crate, of_function[1]
     if "/rt-edit-" in where:
         over = words[words.index("--incremental") + 1] if "--incremental" in words else ""
         number = os.path.basename(over)

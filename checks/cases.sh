@@ -3,15 +3,22 @@
 # cases with a page of their own. `checks/cases.sh FOLDER` runs those of one folder. A case is NAME.jsonl (the input),
 # NAME.out (what is written) and NAME.end (the status, and the line on standard error, if there is one). Those of
 # cases/bech32/ are run with the words `bech32 replay`, all others with `replay`.
-# Where the gate built the program and no source has changed since, that program runs (or the one that the variable STAKEPLAY
-# names); else the kit's interpreter runs the sources once for all cases, proving nothing.
+# The program of checks/program.bash runs; but where sources changed since the release, and none was built of them, the kit's
+# interpreter runs them once for all cases, proving nothing, if there is a kit.
 set -u
 cd "$(dirname "$0")/.."
 folders=("$@")
 [ $# -gt 0 ] || folders=(cases cases/bech32 examples)
 . checks/program.bash
-way="${built:+built}"
-way="${way:-sources}"
+way=built
+if [ "$kind" = older ] || [ "$kind" = none ]; then
+    if command -v rt >/dev/null; then
+        way=sources
+    else
+        need_program cases
+        echo "cases: run by $(told_program)"
+    fi
+fi
 status=0
 for folder in "${folders[@]}"; do
     run="$(mktemp -d)"

@@ -1,6 +1,7 @@
 #!/usr/bin/env bash
 # Lists the lemmas of proofs/ that nothing cites: a name that is declared at the head of a line of a lemma file and stands
-# nowhere else in the repository, an import being no use.
+# nowhere else in the repository, an import being no use. Those of WAITING go with the next change of their crate, since a
+# change of a low crate has all crates above it proved again; one that is cited or gone has to leave that list.
 set -u
 cd "$(dirname "$0")/.."
 python3 - <<'PYTHON'
@@ -9,6 +10,9 @@ import collections, pathlib, re, sys
 # names of antt have letters, digits, _, ' and -, and a - stands within them alone
 NAME = r"[A-Za-z_][\w']*(?:-[\w']+)*"
 HEAD = re.compile(rf"^\s*(?:pub )?(?:abbrev )?(?:pub )?({NAME}) :(?!:)")
+
+
+WAITING = {"crates/base_coins/proofs/Joins.antt: parts_rise", "crates/base_coins/proofs/Joins.antt: takes_first"}
 
 
 def indent(line):
@@ -42,10 +46,15 @@ for path in sorted(pathlib.Path("crates").glob("*/**/*")):
             if name == first and at <= (1 if head else 0):
                 continue
             uses[name] += 1
-dead = [f"{path}: {name}" for name, path in declared if not uses[name]]
+uncited = {f"{path}: {name}" for name, path in declared if not uses[name]}
+dead, ended = sorted(uncited - WAITING), sorted(WAITING - uncited)
 for row in dead:
     print(f"lemmas: nothing cites {row}")
+for row in ended:
+    print(f"lemmas: {row} does not wait any more: take it off the list")
+for row in sorted(WAITING & uncited):
+    print(f"lemmas: goes with the next change of its crate: {row}")
 if not dead:
-    print(f"lemmas: {len(declared)} names of lemma files, each cited")
-sys.exit(1 if dead else 0)
+    print(f"lemmas: {len(declared)} names of lemma files, each cited but for {len(WAITING & uncited)}")
+sys.exit(1 if dead or ended else 0)
 PYTHON

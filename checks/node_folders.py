@@ -12,11 +12,10 @@ import sys
 import tempfile
 from typing import Any, Callable
 
-sys.path[:0] = ["bench/node", "examples/recipes"]
+sys.path[:0] = ["bench/node", "python/src"]
 
-import from_blocks  # noqa: E402
 import make  # noqa: E402
-import node_data  # noqa: E402
+from stakeplay.node import data as node_data, from_blocks  # noqa: E402
 
 Json = Any
 Answers = dict[str, Json]

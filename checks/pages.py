@@ -61,7 +61,8 @@ class Node(http.server.BaseHTTPRequestHandler):
 
 def new_room(room):
     """A folder as a reader's, with the program under the name of the script, and the chain's own program beside it."""
-    shutil.copytree(EXAMPLES, room / "examples", ignore=shutil.ignore_patterns("__pycache__"))
+    for folder in (EXAMPLES, "python"):
+        shutil.copytree(folder, room / folder, ignore=shutil.ignore_patterns("__pycache__"))
     bodies = {"stakeplay.sh": f'exec "{PROGRAM}" "$@"', "simd": 'cp "examples/recipes/data/export_$3.json" "$5"'}
     for name, body in bodies.items():
         (room / name).write_text(f"#!/bin/sh\n{body}\n")
@@ -121,7 +122,8 @@ BALLOTS = '{"kind":"ballot","voter":"' + USER + '","option":"yes"}'
 # the page; how the block begins; what comes before it; what a reader puts in; for each command what it is to write, or the
 # status that it ends with and what it is to write; None in place of all of this: it is not run here, since it proves
 ROWS = [
-    ("README.md", "./stakeplay.sh - replay", "", {"bash .ci/run": "true"}, [writes(WHOLE), writes("")]),
+    ("README.md", "./stakeplay.sh - replay", "", {"bash checks/all.sh": "true", "bash .ci/run": "true"},
+     [writes(WHOLE), writes(""), writes("")]),
     ("README.md", "head -n 4", "", {}, [begins, writes(REST), spelled_rewards, finds_right]),
     ("CONTRIBUTING.md", "cd crates/mod_staking", None, {}, None),
     ("docs/FORMATS.md", "sqlite3 FILE", REPLAYED, {"FILE": "chain.db"}, [writes(f"{851:032X}\n")]),
@@ -216,7 +218,7 @@ with http.server.ThreadingHTTPServer(("127.0.0.1", 0), Node) as server, contextl
             continue
         tools = [tool for tool in ("sqlite3", "curl") if re.search(rf"^{tool} ", block, re.M) and not shutil.which(tool)]
         if tools:
-            print(f"pages: {page}: passed over, since {' and '.join(tools)} is absent: {block.splitlines()[0]}")
+            print(f"pages: {page}: left out, since {' and '.join(tools)} is absent: {block.splitlines()[0]}")
             continue
         try_block(page, block, row, f"http://localhost:{server.server_port}")
     bad += [f"{row[0]}: no commands begin with {row[1]!r}" for row in left]

@@ -1,7 +1,7 @@
 #!/usr/bin/env bash
 # The checks of an edit, in under a minute: `checks/quick.sh [CRATE]`. The layout of the crate's files (of those that git
-# sees changed, where none is named), the pages and lists of the repository, lemmas that nobody cites, and, where the program
-# is built, the cases. It proves nothing: `rt check` in the crate's folder does, and `.ci/run` is the gate.
+# sees changed, where none is named), the pages and lists of the repository, lemmas that nobody cites, and, where there is a
+# program of these sources, the cases. It proves nothing: `rt check` in the crate's folder does, and `.ci/run` is the gate.
 set -u
 cd "$(dirname "$0")/.."
 status=0
@@ -14,7 +14,7 @@ for crate in "${crates[@]}"; do
         echo "quick: there is no crate $crate"
         exit 2
     fi
-    command -v rt >/dev/null || { echo "quick: rt is not on the path, so the layout of $crate is not looked at"; continue; }
+    command -v rt >/dev/null || { echo "quick: left out: the layout of $crate, since rt is not on the path"; continue; }
     # rt fmt lays out what it finds: so it is asked of a copy
     copy="$(mktemp -d)"
     mkdir -p "$copy/crates"
@@ -31,9 +31,9 @@ done
 bash checks/repository.sh || status=1
 bash checks/lemmas.sh || status=1
 . checks/program.bash
-if [ -n "$built" ]; then
+if [ "$kind" = named ] || [ "$kind" = here ] || [ "$kind" = released ]; then
     bash checks/cases.sh || status=1
 else
-    echo "quick: the cases are passed over, since the program is not built, or a source is newer"
+    echo "quick: left out: the cases, since no program was built of these sources"
 fi
 exit $status

@@ -8,6 +8,7 @@ set -u
 cd "$(dirname "$0")/.."
 export PYTHONDONTWRITEBYTECODE=1
 . checks/program.bash
+need_program recipes
 bad=0
 python3 - "$built" <<'PYTHON' || bad=1
 import collections, contextlib, functools, io, json, pathlib, re, subprocess, sys, tempfile
@@ -21,7 +22,8 @@ recipes = examples / "recipes"
 life = (examples / "life.out").read_bytes()
 addresses = [number + "07" * 19 for number in ("01", "02", "03", "09")]
 bad = []
-sys.path[:0] = ["checks", str(recipes)]
+package = pathlib.Path("python/src")
+sys.path[:0] = ["checks", str(package)]
 
 import console
 
@@ -49,7 +51,7 @@ def tried_here(words, given=b""):
     sys.argv, sys.stdin = words, io.TextIOWrapper(io.BytesIO(given))
     with contextlib.redirect_stdout(out), contextlib.redirect_stderr(err):
         try:
-            exec(compiled(words[0]), {"__name__": "__main__"})
+            exec(compiled(words[0]), {"__name__": "__main__", "__file__": str(recipes / words[0])})
         except SystemExit as end:
             status = end.code or 0
     return status, out.getvalue().encode(), err.getvalue()
@@ -57,9 +59,10 @@ def tried_here(words, given=b""):
 
 def commands(name, first="0", last="1"):
     """The recipes with their words, for an output that reaches from one height to another."""
-    some = addresses[2:]
-    return [["audit.py", name], ["tax_sheet.py", some[0], name], ["validator_sheet.py", addresses[1], name],
-            ["reconcile.py", first, last, name, *some], ["watch.sh", name]]
+    some, all_known = addresses[2:], "--allow-unknown"
+    return [["audit.py", name], ["tax_sheet.py", some[0], name, all_known],
+            ["validator_sheet.py", addresses[1], name, all_known], ["reconcile.py", first, last, name, *some, all_known],
+            ["watch.sh", name]]
 
 
 def try_all(tries):
@@ -74,7 +77,8 @@ def try_all(tries):
 # ---- the page
 
 shown = passed = 0
-headers = {path.name: path.read_text() for path in recipes.iterdir() if path.suffix in (".py", ".sh")}
+headers = {path.name: path.read_text() for path in recipes.glob("*.sh")}
+headers |= {path.name: path.read_text() for path in package.rglob("*.py") if (recipes / path.name).exists()}
 page = pathlib.Path("docs/RECIPES.md").read_text()
 for command, wanted in console.blocks("docs/RECIPES.md"):
     absent = console.absent_tools(command)
@@ -85,9 +89,9 @@ for command, wanted in console.blocks("docs/RECIPES.md"):
     shown += 1
     fault = console.fault_of(command, wanted)
     ask(not fault, fault)
+ask(headers.keys() == {path.name for path in recipes.iterdir() if path.suffix in (".py", ".sh")},
+    "a script of examples/recipes has no module of its name")
 for name in headers:
-    if name == "lines.py" or name.startswith("node_"):  # what recipes share
-        continue
     ask(f"examples/recipes/{name}" in page, f"the page does not lead to {name}")
     ask("Who wants it:" in headers[name] and "One command:" in headers[name], f"{name} has no header")
 for words in commands(str(examples / "life.out"))[:2]:
@@ -209,7 +213,7 @@ with tempfile.TemporaryDirectory() as room:
 
 # ---- lines that were changed by one unit
 
-import audit
+from stakeplay.sheets import audit
 
 
 def bumped(text, by):

@@ -206,7 +206,7 @@ def try_ranges() -> int:
     ask(json.loads(no_next[2])["txs"] == [], "what the next block mints is paid where it isn't known")
     ask(no_next[:2] == whole.splitlines()[:2], "results that are missing behind a range change it")
     tries = [(PLAIN, ["2", "9"], "stop height: block_5.json"), ({}, [], "stop height: "),
-             (PLAIN, ["3", "2"], "usage: "), (PLAIN, ["1"], "usage: "),
+             (PLAIN, ["3", "2"], "from_blocks.py: FIRST and LAST "), (PLAIN, ["1"], "from_blocks.py: FIRST and LAST "),
              (changed(gone("block_2")), [], "stop height: block_2.json")]
     for answers, words, wanted in tries:
         status, out, err = converted(answers, *words)

@@ -22,11 +22,11 @@ RECIPES = pathlib.Path("examples/recipes")
 DATA = RECIPES / "data"
 BLOCK, RESULTS = str(DATA / "block_1000.json"), str(DATA / "blocks/block_results_1001.json")
 EXPORT, GENESIS = (json.loads((DATA / name).read_text()) for name in ("export_1000.json", "genesis.json"))
-sys.path.insert(0, str(RECIPES))
+sys.path.insert(0, "python/src")
 
-from node_data import (RESERVE, SECOND, bech32, decimal_text, decimal_units, from_bech32, moment_of,  # noqa: E402
-                       moment_text)
-from node_state import read_store, rows_of  # noqa: E402
+from stakeplay.node.data import (RESERVE, SECOND, bech32, decimal_text, decimal_units, from_bech32,  # noqa: E402
+                                 moment_of, moment_text)
+from stakeplay.node.state import read_store, rows_of  # noqa: E402
 
 built = sys.argv[1] if len(sys.argv) > 1 else ""
 place = tempfile.TemporaryDirectory()
@@ -53,7 +53,7 @@ def ran(script, *words):
     sys.argv = [script, *map(str, words)]
     with contextlib.redirect_stdout(out), contextlib.redirect_stderr(err):
         try:
-            exec(compiled(script), {"__name__": "__main__"})
+            exec(compiled(script), {"__name__": "__main__", "__file__": str(RECIPES / script)})
         except SystemExit as end:
             status = end.code or 0
         except Exception:

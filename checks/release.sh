@@ -1,7 +1,7 @@
 #!/usr/bin/env bash
 # Compares the release with what stands here: its sums are those that it tells, and it unpacks to the program that it tells.
-# Where the sources are those of the release, the program that the gate built is the released one, byte by byte, and
-# stakeplay.sh runs it, without the kit; else it is said how many commits ago its sources stood.
+# Where the sources are those of the release, stakeplay.sh runs it without the kit, and the program that was built here, if
+# there is one, is the released one, byte by byte; else it is said how many commits ago its sources stood.
 set -u
 cd "$(dirname "$0")/.."
 . release/release.bash
@@ -15,14 +15,9 @@ if ! is_of_release .; then
     since="$(git log -1 --format=%H -- release/RELEASE 2>/dev/null)"
     age="$(git rev-list --count "$since..HEAD" -- 'crates/*/src/*' 2>/dev/null)"
     [ $bad = 0 ] && echo "release: of $(release_word . made), whole; sources changed since, in ${age:-some} commits"
+    echo "release: left out: a run from the release by stakeplay.sh, and whether a build gives it, since its sources are others"
     exit $bad
 fi
-. checks/program.bash
-if [ -z "$built" ]; then
-    [ $bad = 0 ] && echo "release: of $(release_word . made), whole, of these sources; not compared with a build, since there is none here"
-    exit $bad
-fi
-gzip -dc release/stakeplay.gz | cmp -s - "$built" || say "the program that was built here is not the released one, though the sources are the same"
 # as on a machine without the kit: a copy without what was built, and nothing on the path but what any Linux has
 room="$(mktemp -d)"
 tar -c stakeplay.sh release examples/history.jsonl crates/*/src | tar -x -C "$room"
@@ -30,6 +25,14 @@ began="$(date +%s%N)"
 (cd "$room" && env -i PATH=/usr/bin:/bin HOME="$room" bash ./stakeplay.sh - replay <examples/history.jsonl >"$room/out" 2>"$room/err")
 took=$((($(date +%s%N) - began) / 1000000))
 cmp -s "$room/out" examples/history.out || say "from the release, stakeplay.sh writes something else than examples/history.out: $(head -n 1 "$room/err")"
-[ $bad = 0 ] && echo "release: of $(release_word . made), of these sources, the same as built here; the example took $took ms"
 rm -rf "$room"
+. checks/program.bash
+if [ -n "$here" ]; then
+    gzip -dc release/stakeplay.gz | cmp -s - "$here" || say "the program that was built here is not the released one, though the sources are the same"
+    same=", the same as built here"
+else
+    same=
+    echo "release: left out: whether a build gives the released program, since none was built here"
+fi
+[ $bad = 0 ] && echo "release: of $(release_word . made), whole, of these sources$same; the example took $took ms"
 exit $bad

@@ -1,8 +1,8 @@
 #!/usr/bin/env bash
 # What a reader of the repository relies on: the handles; a README that fits a screen's width and is short; a page for each
-# crate that says what is proved, what is only tested and what no clause says; the documents; and must-fail edits for each
-# crate that has code, but where its check is long: at most six, besides the wrong bodies that every reader of the rules
-# should see refused.
+# crate that says what is proved, what is only tested and what no clause says; the documents; and wrong bodies for each crate
+# that has code, but where its check is long: in must-fail/ those that every reader of the rules should see refused, which
+# the gate tries over a check of the crate, and in wrong-bodies/ all others, which checks/wrong_bodies.py tries.
 # And what keeps the gate short: tests in crates of their own.
 set -u
 cd "$(dirname "$0")/.."
@@ -10,13 +10,13 @@ bad=0
 # crates of definitions, laws and worked examples alone, which have no body that could be wrong (as those of tests alone, by
 # their names), and the program, whose body is one call
 no_edits=" rule_modules rule_machine rule_worked rule_histories law_rewards law_soundness law_records law_runs law_statements run_worked stakeplay "
-# crates whose check, which an edit costs once more, is long (bench/README.md has the gate's budget), and for which no wrong
-# body is among those that every reader should see refused; they may have edits, and most have none
+# crates whose check is long and for which no wrong body is among those that every reader should see refused; they may have
+# some, and most have none
 long_checks=" base_types base_coins base_roles line_json "
-wrong_bodies="invents_overflow|rounds_exact_quotient|cuts_slash_fraction|starts_after_removal|skips_slash_at_start|drops_slash_reference"
-wrong_bodies="$wrong_bodies|keeps_dead_records|drops_the_dust|burns_from_bonded|hides_a_burn|keeps_refused_reward|writes_before_commit"
-wrong_bodies="$wrong_bodies|sorts_all_validators|invents_(read|write|store)_fault|invents_not_found|restarts_from_genesis"
-wrong_bodies="$wrong_bodies|goes_on_behind_a_failed_write|restarts_where_nothing_is_kept|tells_(no_command|bad_rows)_as_want_of_memory|answers_that_all_are_right"
+must_fail="invents_overflow|rounds_exact_quotient|cuts_slash_fraction|starts_after_removal|skips_slash_at_start|drops_slash_reference"
+must_fail="$must_fail|keeps_dead_records|drops_the_dust|burns_from_bonded|hides_a_burn|keeps_refused_reward|writes_before_commit"
+must_fail="$must_fail|sorts_all_validators|invents_(read|write|store)_fault|invents_not_found|restarts_from_genesis"
+must_fail="$must_fail|commits_all_rows|sum_not_compared|always_answers_true|greatest_height_above"
 say() { echo "repository: $*"; bad=1; }
 [ "$(cat HANDLES)" = "Handles allowed: none." ] || say "HANDLES is not the one line"
 lines="$(wc -l <README.md)"
@@ -28,9 +28,11 @@ for crate in $(sed -n 's/^\([a-z0-9_]*\):.*/\1/p' crates.txt); do
     for part in "# $crate" "## Proved, and by which contract" "## Only tested" "## Said by no clause"; do
         grep -qx "$part" "crates/$crate/README.md" 2>/dev/null || say "crates/$crate/README.md has no line '$part'"
     done
-    edits="$(ls crates/"$crate"/must-fail 2>/dev/null | grep '\.edit$')"
-    [[ "$no_edits$long_checks" == *" $crate "* || "$crate" == test_* ]] || [ -n "$edits" ] || say "$crate has no must-fail edit"
-    [ "$(grep -Evc "^(|$wrong_bodies)(\.edit)?$" <<<"$edits")" -le 6 ] || say "$crate has more than six must-fail edits"
+    edits="$(ls crates/"$crate"/must-fail 2>/dev/null)"
+    [[ "$no_edits$long_checks" == *" $crate "* || "$crate" == test_* ]] || [ -n "$edits" ] \
+        || ls crates/"$crate"/wrong-bodies/*.edit >/dev/null 2>&1 || say "$crate has no wrong body"
+    [ "$(grep -Evc "^(|($must_fail)\.edit)$" <<<"$edits")" = 0 ] \
+        || say "$crate has an edit in must-fail/ that is none of those that every reader should see refused: move it to wrong-bodies/"
 done
 # a crate with tests is proved twice, since they are checked together with all of it
 while IFS= read -r file; do say "$file has tests, which stand in a crate of tests alone"; done \
@@ -54,6 +56,7 @@ python3 checks/map.py --check || bad=1
 python3 checks/counts.py || bad=1
 python3 checks/wrap.py --check || bad=1
 python3 docs/drawings/draw.py --check || bad=1
+python3 -B checks/wrong_bodies.py --check || bad=1
 # each decision has an anchor of its own
 while read -r anchor; do say "docs/DECISIONS.md has the anchor $anchor twice"; done \
     < <(grep -o '<a id="[a-z0-9-]*"' docs/DECISIONS.md | sort | uniq -d)

@@ -2,7 +2,7 @@
 import contextlib, copy, importlib.util, io, json, pathlib, subprocess, sys, tempfile
 
 PROGRAM = sys.argv[1]
-spec = importlib.util.spec_from_file_location("check_statement", "examples/recipes/check_statement.py")
+spec = importlib.util.spec_from_file_location("check_statement", "python/src/stakeplay/statements/check_statement.py")
 recipe = importlib.util.module_from_spec(spec)
 spec.loader.exec_module(recipe)
 

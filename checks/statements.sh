@@ -1,6 +1,6 @@
 #!/usr/bin/env bash
 # Reward statements, and lines made of them by one change each, answered by the program's `check` and by the recipe
-# examples/recipes/check_statement.py, which shares no code with it: both have to end alike and to write the same. Then
+# python/src/stakeplay/statements/check_statement.py, which shares no code with it: both have to end alike and to write the same. Then
 # the statements that the program makes of the payments of each case, beside the lines of its replay.
 set -u
 cd "$(dirname "$0")/.."

@@ -9,7 +9,7 @@ transaction."""
 import importlib.util, json, pathlib, subprocess, sys
 
 PROGRAM = sys.argv[1]
-spec = importlib.util.spec_from_file_location("check_statement", "examples/recipes/check_statement.py")
+spec = importlib.util.spec_from_file_location("check_statement", "python/src/stakeplay/statements/check_statement.py")
 recipe = importlib.util.module_from_spec(spec)
 spec.loader.exec_module(recipe)
 units = recipe.units

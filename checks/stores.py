@@ -1,8 +1,8 @@
 """What `checks/stores.sh` runs: stores that the program is to refuse, and some that it is to take."""
 import contextlib, json, os, pathlib, shutil, sqlite3, subprocess, sys, tempfile
 
-sys.path.insert(0, "examples/recipes")
-from first_format import MISSED as MISSES, first_format
+sys.path.insert(0, "python/src")
+from stakeplay.stores.first_format import MISSED as MISSES, first_format
 
 PROGRAM = os.path.abspath(sys.argv[1])
 FAULT, BAD = (6, "stakeplay: store fault"), (8, "stakeplay: bad store")

@@ -25,7 +25,7 @@ with tempfile.TemporaryDirectory() as room:
     for command, wanted in console.blocks(page):
         absent = console.absent_tools(command)
         if absent:
-            print(f"stores: passed over, since {' and '.join(absent)} is absent: {command}")
+            print(f"stores: left out, since {' and '.join(absent)} is absent: {command}")
             continue
         shown += 1
         bad += filter(None, [console.fault_of(command, wanted, cwd=room)])

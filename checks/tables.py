@@ -1,17 +1,20 @@
 #!/usr/bin/env python3
-"""Writes the tables of docs/FORMATS.md that programs want as CSV: examples/refusals.csv and examples/shapes.csv.
+"""Writes the tables of docs/FORMATS.md that programs want as CSV: refusals.csv and shapes.csv, in `examples` and in the
+package of `python`.
 
   checks/tables.py           writes them
   checks/tables.py --check   ends with 1 where a file is not what the page says
 """
 import csv
 import io
+import itertools
 import pathlib
 import re
 import sys
 
 ROOT = pathlib.Path(__file__).resolve().parent.parent
 PAGE = ROOT / "docs" / "FORMATS.md"
+FOLDERS = "examples", "python/src/stakeplay/tables"
 
 
 def rows_below(heading: str, columns: list[str]) -> list[list[str]]:
@@ -51,12 +54,12 @@ def main(words: list[str]) -> int:
         print(__doc__, end="", file=sys.stderr)
         return 2
     status = 0
-    for name, text in tables().items():
-        path = ROOT / "examples" / name
+    for folder, (name, text) in itertools.product(FOLDERS, tables().items()):
+        path = ROOT / folder / name
         if not words:
             path.write_text(text, encoding="utf-8")
         elif not path.exists() or path.read_text(encoding="utf-8") != text:
-            print(f"tables: examples/{name} is not what docs/FORMATS.md says; run checks/tables.py")
+            print(f"tables: {folder}/{name} is not what docs/FORMATS.md says; run checks/tables.py")
             status = 1
     return status
 

@@ -24,11 +24,14 @@ is_of_release() {
 }
 
 # Prints the path of the released program, unpacked, where it can run here and the sources are those of the release.
-released_program() {
+released_program() { is_of_release "$1" && unpacked_program "$1"; }
+
+# The same, whatever the sources are.
+unpacked_program() {
     local program folder sum
-    [ "$(uname -sm)" = "Linux x86_64" ] && is_of_release "$1" || return 1
+    [ "$(uname -sm)" = "Linux x86_64" ] || return 1
     sum="$(release_word "$1" program)"
-    for folder in "$1/target/release" "${XDG_CACHE_HOME:-$HOME/.cache}/stakeplay"; do
+    for folder in "$1/target/release" "${XDG_CACHE_HOME:-${HOME:-$1/target}/.cache}/stakeplay"; do
         program="$folder/stakeplay-${sum:0:16}"
         if [ -x "$program" ] || unpack "$1" "$folder" "$program" "$sum"; then
             echo "$program"

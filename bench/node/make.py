@@ -22,9 +22,9 @@ import sys
 from datetime import datetime, timedelta
 from typing import Any
 
-sys.path.insert(0, str(pathlib.Path(__file__).resolve().parents[2] / "examples/recipes"))
+sys.path.insert(0, str(pathlib.Path(__file__).resolve().parents[2] / "python/src"))
 
-from node_data import RESERVE, bech32, hash_address  # noqa: E402
+from stakeplay.node.data import RESERVE, bech32, hash_address  # noqa: E402
 
 Json = dict[str, Any]
 CHAIN, START, USERS, MINTED = "made-1", datetime(2024, 1, 1), 100, 5000

@@ -67,7 +67,7 @@ static void bind(sqlite3_stmt *made, int place, const unsigned char **at) {
 }
 
 /* A file of changes: for each transaction their number, and for each change 1 with name and body, or 0 with the name. */
-static void apply(const char *path) {
+static void apply(const char *path, const char *put_text) {
     FILE *file = fopen(path, "rb");
     fseek(file, 0, SEEK_END);
     long size = ftell(file);
@@ -77,9 +77,9 @@ static void apply(const char *path) {
     fclose(file);
     run("PRAGMA journal_mode=WAL");
     run("PRAGMA synchronous=FULL");
-    run("CREATE TABLE kept (name BLOB NOT NULL PRIMARY KEY, body BLOB NOT NULL) STRICT");
+    run("CREATE TABLE IF NOT EXISTS kept (name BLOB NOT NULL PRIMARY KEY, body BLOB NOT NULL) STRICT");
     sqlite3_stmt *begin = prepared("BEGIN IMMEDIATE"), *commit = prepared("COMMIT");
-    sqlite3_stmt *put = prepared("INSERT OR REPLACE INTO kept (name, body) VALUES (?1, ?2)");
+    sqlite3_stmt *put = prepared(put_text);
     sqlite3_stmt *removal = prepared("DELETE FROM kept WHERE name = ?1");
     const unsigned char *at = bytes, *end = bytes + size;
     while (at < end) {
@@ -104,8 +104,8 @@ static void *copied(sqlite3_stmt *made, int place) {
     return copy;
 }
 
-static void read_all(void) {
-    sqlite3_stmt *rows = prepared("SELECT name, body FROM kept ORDER BY name");
+static void read_all(const char *text) {
+    sqlite3_stmt *rows = prepared(text);
     void **all = 0;
     size_t count = 0, room = 0;
     int answer;
@@ -121,8 +121,11 @@ static void read_all(void) {
 
 int main(int count, char **words) {
     must(sqlite3_open(words[2], &base), SQLITE_OK);
-    if (!strcmp(words[1], "apply")) apply(words[3]);
-    else read_all();
+    if (!strcmp(words[1], "apply")) apply(words[3], "INSERT OR REPLACE INTO kept (name, body) VALUES (?1, ?2)");
+    else if (!strcmp(words[1], "upsert"))
+        apply(words[3], "INSERT INTO kept (name, body) VALUES (?1, ?2) ON CONFLICT (name) DO UPDATE SET body = excluded.body");
+    else if (!strcmp(words[1], "read")) read_all("SELECT name, body FROM kept ORDER BY name");
+    else read_all("SELECT name, body FROM kept");
     must(sqlite3_close(base), SQLITE_OK);
     return count < 3;
 }
@@ -137,7 +140,7 @@ def build_stock(work):
 
 
 def timed(words, given="/dev/null"):
-    """Seconds by the clock and of a processor that a run takes."""
+    """Seconds by the clock and of a processor that a run takes, and its most memory in kB."""
     with open(given, "rb") as source, open("/dev/null", "wb") as sink:
         begin = time.monotonic()
         process = subprocess.Popen([str(word) for word in words], stdin=source, stdout=sink)
@@ -146,12 +149,12 @@ def timed(words, given="/dev/null"):
     process.returncode = os.waitstatus_to_exitcode(status)
     if process.returncode:
         sys.exit(f"{' '.join(map(str, words))} ended with {process.returncode}")
-    return took, used.ru_utime + used.ru_stime
+    return took, used.ru_utime + used.ru_stime, used.ru_maxrss
 
 
 def least(runs, tries):
-    """The least times of some runs, which go alternately; each is a call that makes ready and answers what to run."""
-    best = {name: (float("inf"),) * 2 for name in tries}
+    """The least of what some runs take, which go alternately; each is a call that makes ready and answers what to run."""
+    best = {name: (float("inf"),) * 3 for name in tries}
     for _ in range(runs):
         for name, ready in tries.items():
             best[name] = tuple(map(min, best[name], timed(*ready())))
@@ -180,6 +183,21 @@ def sized(blob):
     return struct.pack("=I", len(blob)) + blob
 
 
+def changes_between(before, now):
+    """What changes rows into others: each name with its new body, or with none where its row is gone."""
+    changes = {name: body for name, body in now.items() if before.get(name) != body}
+    return changes | {name: None for name in before if name not in now}
+
+
+def packed(changes):
+    """The changes of a transaction, as the C program reads them."""
+    each = [
+        struct.pack("=I", 0) + sized(name) if body is None else struct.pack("=I", 1) + sized(name) + sized(body)
+        for name, body in changes.items()
+    ]
+    return struct.pack("=I", len(each)) + b"".join(each)
+
+
 def write_changes(work, lines, path):
     """What each line changes, as the C program reads it; the rows at the end."""
     status, output, _ = ran("-", ["replay"], b"".join(lines))
@@ -188,13 +206,9 @@ def write_changes(work, lines, path):
     before, count = {}, 0
     with path.open("wb") as file:
         for rows in fed(work / "watched", lines, texts_of(output)):
-            now = dict(rows)
-            changes = [
-                struct.pack("=I", 1) + sized(name) + sized(now[name]) for name in now if before.get(name) != now[name]
-            ]
-            changes += [struct.pack("=I", 0) + sized(name) for name in before if name not in now]
-            file.write(struct.pack("=I", len(changes)) + b"".join(changes))
-            before, count = now, count + len(changes)
+            changes = changes_between(before, dict(rows))
+            file.write(packed(changes))
+            before, count = dict(rows), count + len(changes)
     print(f"commits: {len(lines)} lines change {count} rows", flush=True)
     return rows
 

@@ -6,7 +6,7 @@ A chain of 100 validators whose votes are kept for a window of 10,000 blocks, of
 
   rows     the bytes of the rows that it changed, names and bodies, in the second format and, of the same rows, in the first.
            Aim: at most a tenth
-  store    the bytes that the program handed to the system for its two files, and the number of its syncs, one a commit;
+  store    the bytes that the program handed to the system for its two files, and the number of its syncs, one or two a commit;
            beside those of a program that writes the first format, where `--first` names one (a release before that change)
 
 `/proc/PID/io` has the bytes, what was printed taken off, and `strace` counts the syncs, where there is one. Linux alone.
@@ -14,8 +14,8 @@ The program is the one that `.ci/run` built, or that the variable STAKEPLAY name
 import argparse, pathlib, random, re, shutil, subprocess, sys, tempfile
 
 TOP = pathlib.Path(__file__).resolve().parents[2]
-sys.path[:0] = [str(TOP / "bench/outside"), str(TOP / "examples/recipes")]
-from first_format import first_format
+sys.path[:0] = [str(TOP / "bench/outside"), str(TOP / "python/src")]
+from stakeplay.stores.first_format import first_format
 from runs import PROGRAM, rows_of
 
 VALIDATORS = 100

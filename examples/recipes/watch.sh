@@ -9,9 +9,27 @@
 #     watch: block 2, 2024-01-01T00:00:10Z, 8 lines
 # Status: 0, or 2 where the output is cut or of another program, which is said.
 set -u
-name="${1:--}"
+fail() {
+    echo "watch.sh: $*" >&2
+    exit 2
+}
+case "${1:-}" in
+--help | -h)
+    sed -n '2,/^set -u/{/^set -u/d;s/^# \{0,1\}//p}' "$0"
+    exit 0
+    ;;
+-?*) fail "unrecognized argument: $1 (--help says what it takes)" ;;
+esac
+[ $# -le 1 ] || fail "unrecognized argument: $2 (--help says what it takes)"
+name="${1--}"
+[[ "${EVERY-1000}" =~ ^[1-9][0-9]{0,8}$ ]] || fail "EVERY is no count of blocks, from 1 on"
+if [ "$name" != - ]; then
+    [ -e "$name" ] || fail "$name: No such file or directory"
+    [ ! -d "$name" ] || fail "$name: Is a directory"
+    [ -r "$name" ] || fail "$name: Permission denied"
+fi
 # the point behind the end shows whether the last line has its end
-{ cat -- "$name"; printf .; } | awk -v every="${EVERY:-1000}" '
+{ cat -- "$name"; printf .; } | LC_ALL=C awk -v every="${EVERY-1000}" '
     function stop(text) {
         printf "watch: %s\n", text > "/dev/stderr"
         stopped = 1

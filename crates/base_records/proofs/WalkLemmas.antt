@@ -1,5 +1,5 @@
 -- Walks over entries, each time to the least key above the last.
-use Rattle.std.proofs.Common.{◌≡◌, ◌∙◌, ℕ, ◌+◌, ◌<◌, Bool, true, false, cond, List, [], ◌∷◌, ◌++◌, Option, Some, None, add-one, append_assoc, drop, drop-cons, get_or, length, refl, sym, ap, arith, inl, inr, ◌&&◌, map, Ordering, Less, Equal, Greater, is_lt, filter}
+use Rattle.std.proofs.Common.{◌≡◌, ◌∙◌, ◌<◌, Bool, true, false, cond, List, [], ◌∷◌, ◌++◌, Option, Some, None, append_assoc, length, refl, sym, ap, arith, inl, inr, ◌&&◌, map, Ordering, Less, Equal, Greater, is_lt, filter}
 use Rattle.std.specs.{declared.ops.Bound.TheVariants.{Excluded, Unbounded}, Ordering.ordering_reverse, Cmp.IsTotalOrder}
 use Rattle.std.specs.{List.{AllByRecursion, cons_option, Sorted.IsStrictlySortedBy}, Map.keys_of}
 use Rattle.std.specs.BTreeMap.Range.{entries_between}
@@ -123,15 +123,7 @@ pub record Told {K V : Type 0} (cmp : K → K → Ordering) (of : K → V → It
   pub made : out ++ changes_of cmp of gone same left es ≡ start ++ changes_of cmp of gone same touched es
   pub some : (more : List (Item × Bool)) × (out ≡ start ++ more)
 
--- the pair that a walk over a touched list has come to stands before those that are left
-pub touched-next : {A : Type 0} (ts : List A) (i : ℕ) (t : A) → i < length ts → t ≡ get_or ts i t → drop i ts ≡ t ∷ drop (i + 1) ts
-touched-next ts i t lt is = rw (add-one) (drop-cons ts i t lt) ∙ ap (λ u. u ∷ drop (i + 1) ts) (sym is)
-
 module _ {K V : Type 0} (cmp : K → K → Ordering) (of : K → V → Item) (gone : K → Item) (same : V → V → Bool) (start : List (Item × Bool)) (touched : List (K × Option V)) (es : List (K × V)) where
-  -- at the end all are told
-  pub told-all : (out : List (Item × Bool)) (left : List (K × Option V)) → left ≡ [] → Told cmp of gone same start touched es out left → out ≡ start ++ changes_of cmp of gone same touched es
-  told-all out left none t = sym (append_nil out) ∙ ap (λ l. out ++ changes_of cmp of gone same l es) (sym none) ∙ t.made
-
   pub told-same : (out : List (Item × Bool)) (left rest : List (K × Option V)) (k : K) (was : Option V) → Told cmp of gone same start touched es out left → left ≡ (k, was) ∷ rest
       → change_of of gone same k was (value_at cmp es k) ≡ None → Told cmp of gone same start touched es out rest
   told-same out left rest k was t e c = record {

@@ -7,10 +7,11 @@ ghost use Rattle.base_records.specs.Items.{IsRowed};
 use base_roles::Item;
 use base_types::{Copied, TableFault};
 use std::alloc::Global;
+use std::hash::Hash;
 
 /// A kind of records: what its table has as keys and values, and how these are an item of the state.
 pub trait AsItem {
-    type Key: Ord + Copied;
+    type Key: Ord + Hash + Copied;
 
     type Value: Copied;
 

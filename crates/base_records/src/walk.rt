@@ -51,8 +51,7 @@ pub(crate) fn changes_into<R: AsItem, L: Ledger>(
     ensures err { (some : List (Item × Bool)) × (out.new.items ≡ out.old.items ++ some) }
 {
     table.known();
-    let touched = table.touched();
-    for (key, was) in touched {
+    for (key, was) in table.touched().iter() {
         let now = table.get(key, steps);
         if let Some(change) = change_of::<R>(alloc, key, was, now)? {
             out.push(change)?;

@@ -1,14 +1,15 @@
 -- A change of a place: what is seen, what is listed and how the place is stamped.
-use Rattle.std.proofs.Common.{◌≡◌, ℕ, ◌+◌, ◌<◌, ◌≤◌, Bool, true, false, List, [], ◌∷◌, ◌++◌, length, Option, Some, None, is_some, option_map, unwrap_or, refl, if◌then◌else◌, sym, ◌∙◌, ap, subst, arith, Ordering, option_to_list, is_eq}
+use Rattle.std.proofs.Common.{◌≡◌, ℕ, ◌<◌, ◌≤◌, Bool, true, false, List, [], ◌∷◌, ◌++◌, length, Option, Some, None, is_some, option_map, unwrap_or, refl, if◌then◌else◌, sym, ◌∙◌, ap, subst, arith, Ordering, option_to_list, is_eq}
 use Rattle.std.specs.{Cmp.{IsTotalOrder, tied_itself}, List.Sorted.IsStrictlySortedBy}
 use Rattle.std.specs.{Map.{keys_of, lookup, lookup_entry, lookup_key}, BTreeMap.{insert_entry, is_at}}
 use Rattle.base_table.specs.declared.slot.{Place.Place, Slot.{Slot, TheVariants.Empty}}
-use Rattle.base_table.specs.Places.{changed, entry_of, filled, is_full, len_changed, name_in, pair_of, slot_at, slot_of, slot_or, slots, stamp_of, stamps, unlisted, value_stamped, AreNamed, AreStamped, IsExchanged, IsNamed}
+use Rattle.base_table.specs.Places.{changed, entry_of, filled, is_full, len_changed, name_in, pair_of, slot_at, slot_of, slot_or, slots, listed_by, stamp_of, stamps, unlisted, value_stamped, AreNamed, AreStamped, IsExchanged, IsNamed}
 use Rattle.base_table.specs.Tabled.{key_in, value_at}
 use Rattle.base_table.proofs.EachLemmas.{insert-each, length-each, lookup-each, lookup_key-each, sorted-each}
-use Rattle.base_table.proofs.EntryLemmas.{lookup_is, lookup_key_is}
+use Rattle.base_table.proofs.EntryLemmas.{lookup_is, lookup_key_is, tied_lookup}
+use Rattle.indexmap.specs.IndexMap.{IndexMap, insert_entry as put_by}
 use Rattle.base_table.proofs.PlaceLemmas.{entry-filled, filled-changed, found_entry, full-value, length-changed, length-filled, insert-same, name-filled, name_under, pair_is, shown, sorted-filled, value-absent, AreNamed-insert}
-use Rattle.base_table.proofs.StampLemmas.{listed-by_stamp, tied_pair, unlisted-without, zero_plus, AreStamped-push}
+use Rattle.base_table.proofs.StampLemmas.{listed-by_stamp, put_last, tied_pair, unlisted-without, zero_plus, AreStamped-push}
 
 none_of : {X : Type 0} (o : Option X) → is_some o ≡ false → o ≡ None
 none_of None h = refl
@@ -78,13 +79,39 @@ module _ {K V : Type 0} {R : K → K → Ordering} (o : IsTotalOrder R) (ps : Li
     entry_here : lookup_entry (is_at (R k)) (filled (slots ps)) ≡ entry_of stored place.slot
     entry_here = entry-filled o k (slots ps) sorted-slots named ∙ ap shown (found_entry (is_at (R k)) (slots ps) stored place.slot (sym (lookup_key-each slot_of (is_at (R k)) ps ∙ key)) (sym slot_here))
 
-    pub unlisted-found : (if is_some (value_stamped R ts place.stamp k) then None else Some (pair_of k (entry_of stored place.slot))) ≡ unlisted R ts (filled (slots ps)) k
-    unlisted-found = λ i. if is_some (listed-by_stamp o ts (stamps ps) k place.stamp stamped stamp_here i) then None else Some (pair_at R (filled (slots ps)) k (entry_of stored place.slot) entry_here i)
-
     pub shows-found : (slot : Slot K V) (value : Option V) → entry_of (key_in R (slots ps) k) slot ≡ option_map (λ v. (name_in k (key_in R (slots ps) k) place.slot, v)) value
         → entry_of (key_in R (slots ps) k) slot ≡ option_map (λ v. (key_in R (filled (slots ps)) k, v)) value
     shows-found slot value is =
         is ∙ sym (ap (λ n. option_map (λ v. (n, v)) value) (name-filled o k (slots ps) sorted-slots named ∙ ap (name_under k (key_in R (slots ps) k)) slot_here))
+
+    -- the list, once the key is put into it unless it is listed at the stamp
+    pub listed-found : (eq : K → K → Bool) (ties : (x y : K) → eq x y ≡ is_eq (R x y)) {S : Type 0} (m : IndexMap K (Option V) S) (new : List (K × Option V)) → m.entries ≡ ts
+        → new ≡ listed_by R eq m.entries place.stamp k (pair_of k (entry_of stored place.slot)) → new ≡ m.entries ++ option_to_list (unlisted R m.entries (filled (slots ps)) k)
+    listed-found eq ties m new same made = by (value_at R m.entries k) refl (made ∙ (λ i. if is_some (told i) then m.entries else put_by eq m.entries (pair i).0 (pair i).1))
+      where
+        name : K
+        name = key_in R (filled (slots ps)) k
+
+        old : Option V
+        old = value_at R (filled (slots ps)) k
+
+        pair : pair_of k (entry_of stored place.slot) ≡ (name, old)
+        pair = pair_at R (filled (slots ps)) k (entry_of stored place.slot) entry_here
+
+        told : value_stamped R m.entries place.stamp k ≡ value_at R m.entries k
+        told = listed-by_stamp o m.entries (stamps ps) k place.stamp (subst (λ l. AreStamped R 0 l (stamps ps)) (sym same) stamped) stamp_here
+
+        by : (v : Option (Option V)) → value_at R m.entries k ≡ v → new ≡ (if is_some v then m.entries else put_by eq m.entries name old) → new ≡ m.entries ++ option_to_list (if is_some v then None else Some (name, old))
+        by None none made = put_last o eq ties m name old new (sym (tied_lookup o k name (tied_pair o (filled (slots ps)) k) m.entries) ∙ none) made
+        by (Some v) listed made = made ∙ append_nothing m.entries
+
+    -- the stamp that says where
+    stamp_is : (s : ℕ) → s ≡ (if is_some (value_stamped R ts place.stamp k) then place.stamp else length ts) → s ≡ (if is_some (unlisted R ts (filled (slots ps)) k) then length ts else place.stamp)
+    stamp_is s is = is ∙ ap (λ v. if is_some v then place.stamp else length ts) (listed-by_stamp o ts (stamps ps) k place.stamp stamped stamp_here) ∙ flip (is_some (value_at R ts k)) (key_in R (filled (slots ps)) k, value_at R (filled (slots ps)) k)
+      where
+        flip : (b : Bool) (p : K × Option V) → (if b then place.stamp else length ts) ≡ (if is_some {T = K × Option V} (if b then None else Some p) then length ts else place.stamp)
+        flip true p = refl
+        flip false p = refl
 
     pub stamped-found : (qs : List (K × Place K V)) (new : Place K V) (u : Option (K × Option V)) → u ≡ unlisted R ts (filled (slots ps)) k → new.stamp ≡ (if is_some u then length ts else place.stamp)
         → qs ≡ insert_entry R ps k new → AreStamped R 0 (ts ++ option_to_list u) (stamps qs)
@@ -112,6 +139,13 @@ module _ {K V : Type 0} {R : K → K → Ordering} (o : IsTotalOrder R) (ps : Li
         (λ i. Some (is i, None))
         ∙ (λ i. if sym (ap is_some not_listed) i then None else Some (pair_at R (filled (slots ps)) k None (value-absent o k (slots ps) sorted-slots named no_slot) i))
 
+    -- the list, once the key is put into it
+    pub listed-new : (eq : K → K → Bool) (ties : (x y : K) → eq x y ≡ is_eq (R x y)) {S : Type 0} (m : IndexMap K (Option V) S) (new : List (K × Option V)) → m.entries ≡ ts
+        → new ≡ put_by eq m.entries k None → new ≡ m.entries ++ option_to_list (unlisted R m.entries (filled (slots ps)) k)
+    listed-new eq ties m new same made =
+        put_last o eq ties m k None new (ap (λ l. value_at R l k) same ∙ not_listed) made
+        ∙ ap (λ u. m.entries ++ option_to_list u) (unlisted-new k refl ∙ ap (λ l. unlisted R l (filled (slots ps)) k) (sym same))
+
     pub shows-new : (slot : Slot K V) (value : Option V) → entry_of (key_in R (slots ps) k) slot ≡ option_map (λ v. (key_in R (slots ps) k, v)) value
         → entry_of (key_in R (slots ps) k) slot ≡ option_map (λ v. (key_in R (filled (slots ps)) k, v)) value
     shows-new slot value is =
@@ -131,27 +165,25 @@ module _ {K V : Type 0} {R : K → K → Ordering} (o : IsTotalOrder R) (ps : Li
 
     pub exchanged-found : (stored : K) (place : Place K V) → lookup_key (is_at (R k)) ps ≡ Some stored → lookup (is_at (R k)) ps ≡ Some place
         → ((name : K) → entry_of name new.slot ≡ option_map (λ v. (name_in k name place.slot, v)) value)
-        → (told : Option (K × Option V)) → told ≡ (if is_some (value_stamped R ts place.stamp k) then None else Some (pair_of k (entry_of stored place.slot)))
-        → new.stamp ≡ (if is_some told then length ts else place.stamp)
-        → (before : Slot K V) → before ≡ slot_or (lookup (is_at (R k)) ps) → IsExchanged R k value ts ps qs before told
-    exchanged-found stored place key found shows told is stamp before was =
-        let listed = is ∙ unlisted-found ts stored place named stamped key found in
+        → new.stamp ≡ (if is_some (value_stamped R ts place.stamp k) then place.stamp else length ts)
+        → (before : Slot K V) → before ≡ slot_or (lookup (is_at (R k)) ps) → IsExchanged R k value ts ps qs before (unlisted R ts (filled (slots ps)) k)
+    exchanged-found stored place key found shows stamp before was =
         record {
           found = was ∙ slot_there;
           made = (new.slot, slots-made named qs new value made here);
           seen = filled-made named qs new value made here (shows-found ts stored place named stamped key found new.slot value (shows (key_in R (slots ps) k)));
           named = named-made named qs new value made here;
-          listed = listed;
-          stamped = stamped-found ts stored place named stamped key found qs new told listed stamp made;
+          listed = refl;
+          stamped = stamped-found ts stored place named stamped key found qs new (unlisted R ts (filled (slots ps)) k) refl (stamp_is ts stored place named stamped key found new.stamp stamp) made;
         }
 
     pub exchanged-new : lookup (is_at (R k)) ps ≡ None → ((name : K) → entry_of name new.slot ≡ option_map (λ v. (name, v)) value) → new.stamp ≡ length ts
-        → (told : Option (K × Option V)) → told ≡ Some (k, None) → (before : Slot K V) → before ≡ slot_or (lookup (is_at (R k)) ps) → IsExchanged R k value ts ps qs before told
-    exchanged-new missed shows stamp told is before was = record {
+        → (before : Slot K V) → before ≡ slot_or (lookup (is_at (R k)) ps) → IsExchanged R k value ts ps qs before (unlisted R ts (filled (slots ps)) k)
+    exchanged-new missed shows stamp before was = record {
       found = was ∙ slot_there;
       made = (new.slot, slots-made named qs new value made here);
       seen = filled-made named qs new value made here (shows-new ts named stamped missed new.slot value (shows (key_in R (slots ps) k)));
       named = named-made named qs new value made here;
-      listed = is ∙ unlisted-new ts named stamped missed k refl;
-      stamped = subst (λ u. AreStamped R 0 (ts ++ option_to_list u) (stamps qs)) (sym is) (stamped-new ts named stamped missed qs new k refl stamp made);
+      listed = refl;
+      stamped = subst (λ u. AreStamped R 0 (ts ++ option_to_list u) (stamps qs)) (unlisted-new ts named stamped missed k refl) (stamped-new ts named stamped missed qs new k refl stamp made);
     }

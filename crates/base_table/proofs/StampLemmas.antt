@@ -1,11 +1,12 @@
 -- What stamps tell of the touched list.
-use Rattle.std.proofs.Common.{◌≡◌, ℕ, zero, suc, ◌+◌, true, false, cond, List, [], ◌∷◌, ◌++◌, length, Option, Some, None, is_some, unwrap_or, refl, if◌then◌else◌, sym, ◌∙◌, ap, subst, arith, Ordering, slice_get, option_to_list, is_eq}
-use Rattle.std.specs.{Cmp.{IsTotalOrder, tied_itself}, List.{AllByRecursion, IsDistinct}, Map.{keys_of, lookup}}
-use Rattle.std.specs.{Ordering.eq_by_cmp, BTreeMap.{insert_entry, is_at}}
+use Rattle.std.proofs.Common.{◌≡◌, ℕ, zero, suc, ◌+◌, Bool, true, false, cond, List, [], ◌∷◌, ◌++◌, length, Option, Some, None, is_some, unwrap_or, refl, if◌then◌else◌, sym, ◌∙◌, ap, subst, arith, Ordering, slice_get, option_to_list, is_eq}
+use Rattle.std.specs.{Cmp.{IsTotalOrder, tied_itself}, Map.{lookup}}
+use Rattle.std.specs.{BTreeMap.{insert_entry, is_at}}
 use Rattle.base_types.proofs.MapLemmas.{at-put, equal}
 use Rattle.base_table.specs.Places.{pair_value, unlisted, value_stamped, AreStamped}
 use Rattle.base_table.{specs.Tabled.{key_in, touched_with, value_at}, proofs.EntryLemmas.tied_lookup}
 use Rattle.base_table.proofs.RestoredLemmas.{key_in-tied}
+use Rattle.indexmap.{specs.IndexMap.{IndexMap, insert_entry as insert_by}, proofs.CallerLemmas.insert_entry-new}
 
 later : (n i : ℕ) → suc n + i ≡ n + suc i
 later n i = omega arith
@@ -16,25 +17,11 @@ plus_none n = omega arith
 pub zero_plus : (n : ℕ) → 0 + n ≡ n
 zero_plus n = omega arith
 
-step : (n i : ℕ) → suc (suc n + i) ≡ suc n + suc i
-step n i = omega arith
-
-further : (n i : ℕ) → n ≡ suc n + i → ⊥
-further n i same = omega arith
-
 no_some : {A : Type 0} (x : A) → Some x ≡ None → ⊥
 no_some x h = cc
 
 there : {A : Type 0} {n m : A} (o : Option A) → o ≡ Some n → o ≡ Some m → n ≡ m
 there {n = n} {m = m} o a b = ap (λ x. unwrap_or x n) (sym a ∙ b)
-
-distinct-cons : {K : Type 0} (R : K → K → Ordering) (k : K) (ks : List K) → AllByRecursion (λ y. eq_by_cmp R k y ≡ false) ks → IsDistinct (eq_by_cmp R) ks → IsDistinct (eq_by_cmp R) (k ∷ ks)
-unfolding IsDistinct
-distinct-cons R k ks apart rest = (apart, rest)
-
-distinct-none : {K : Type 0} (R : K → K → Ordering) → IsDistinct (eq_by_cmp R) []
-unfolding IsDistinct
-distinct-none R = tt
 
 module _ {K : Type 0} {R : K → K → Ordering} (o : IsTotalOrder R) where
   -- keys that tie, the other way round
@@ -90,21 +77,6 @@ module _ {K : Type 0} {R : K → K → Ordering} (o : IsTotalOrder R) {V : Type 
     )
   ] refl none
 
-  -- no key is listed twice
-  apart_later : (n i : ℕ) (k : K) (ts : List (K × Option V)) (ss : List (K × ℕ)) → lookup (is_at (R k)) ss ≡ Some n → AreStamped R (suc n + i) ts ss → AllByRecursion (λ y. eq_by_cmp R k y ≡ false) (keys_of ts)
-  apart_later n i k [] ss at h = tt
-  apart_later n i k (t ∷ ts) ss at h = (
-    elim (is_at (R k) t.0) as (λ b. is_at (R k) t.0 ≡ b → b ≡ false) [
-      | true ↦ λ tied. absurd (further n i (there _ at (tied_lookup o k t.0 tied ss ∙ h.0)))
-      | false ↦ λ apart. refl
-    ] refl,
-    apart_later n (suc i) k ts ss at (subst (λ m. AreStamped R m ts ss) (step n i) h.1),
-  )
-
-  pub distinct : (n : ℕ) (ts : List (K × Option V)) (ss : List (K × ℕ)) → AreStamped R n ts ss → IsDistinct (eq_by_cmp R) (keys_of ts)
-  distinct n [] ss h = distinct-none R
-  distinct n (t ∷ ts) ss h = distinct-cons R t.0 (keys_of ts) (apart_later n 0 t.0 ts ss h.0 (subst (λ m. AreStamped R m ts ss) (plus_none (suc n)) h.1)) (distinct (suc n) ts ss h.1)
-
   -- the list once what is yet to be listed is listed
   pub listed_with : (ts : List (K × Option V)) (es : List (K × V)) (k : K) → ts ++ option_to_list (unlisted R ts es k) ≡ touched_with R ts es k
   listed_with ts es k = elim (is_some (value_at R ts k)) as (λ b. ts ++ option_to_list (if b then None else Some (key_in R es k, value_at R es k)) ≡ (if b then ts else ts ++ (key_in R es k, value_at R es k) ∷ [])) [ true ↦ nothing ts | false ↦ refl ]
@@ -115,3 +87,7 @@ module _ {K : Type 0} {R : K → K → Ordering} (o : IsTotalOrder R) {V : Type 
 
   pub tied_pair : (es : List (K × V)) (k : K) → is_at (R k) (key_in R es k) ≡ true
   tied_pair es k = key_in-tied o es k k ∙ ap is_eq (tied_itself o k)
+
+  -- a key that is not listed is put last
+  pub put_last : (eq : K → K → Bool) (ties : (x y : K) → eq x y ≡ is_eq (R x y)) {S : Type 0} (m : IndexMap K (Option V) S) (k : K) (v : Option V) (new : List (K × Option V)) → value_at R m.entries k ≡ None → new ≡ insert_by eq m.entries k v → new ≡ m.entries ++ (k, v) ∷ []
+  put_last eq ties m k v new none made = made ∙ insert_entry-new eq m k v ((λ i. lookup (λ x. ties k x i) m.entries) ∙ none)

@@ -5,6 +5,7 @@ use Rattle.std.specs.declared.ops.Bound.{Bound}
 use Rattle.std.specs.declared.ops.Bound.TheVariants.{Excluded, Unbounded}
 use Rattle.std.specs.BTreeMap.{insert_entry, is_at}
 use Rattle.std.specs.List.{slice_get}
+use Rattle.indexmap.specs.IndexMap.{insert_entry as put_by}
 use Rattle.std.specs.Map.{lookup, remove_entry, set_value}
 use Rattle.std.specs.Option.{option_to_list}
 use Rattle.base_table.specs.declared.undo.Point.{Point}
@@ -101,6 +102,10 @@ module _ {K V : Type 0} where
     -- the value that the touched list tells of a key at this stamp
     abbrev pub value_stamped : List (K × Option V) → ℕ → K → Option (Option V)
     value_stamped touched stamp key = pair_value key (slice_get touched stamp)
+
+    -- the list once this pair is put into it, unless the key is listed at this stamp
+    abbrev pub listed_by : (K → K → Bool) → List (K × Option V) → ℕ → K → K × Option V → List (K × Option V)
+    listed_by eq touched stamp key pair = if is_some (value_stamped touched stamp key) then touched else put_by eq touched pair.0 pair.1
 
     -- what is yet to be listed of a key that is touched
     abbrev pub unlisted : List (K × Option V) → List (K × V) → K → Option (K × Option V)

@@ -1,6 +1,6 @@
 //! Entries in the order of their keys, with open marks to go back to and the list of what was touched.
 
-ghost use Rattle.std.specs.Prelude.{◌≡◌, ◌<◌, ◌^◌, ◌++◌, List, ◌∷◌, [], true, length, option_map, vec_capacity, vec_len, OnOk, OnErr, IsOk, if◌then◌else◌};
+ghost use Rattle.std.specs.Prelude.{◌≡◌, ◌<◌, ◌^◌, ◌++◌, List, ◌∷◌, [], None, true, length, option_map, vec_capacity, vec_len, IfSome, OnOk, OnErr, IsOk, if◌then◌else◌};
 ghost use Rattle.std.specs.BTreeMap.{is_at};
 ghost use Rattle.std.specs.List.{IsDistinct};
 ghost use Rattle.std.specs.List.Sorted.{IsStrictlySortedBy};
@@ -16,24 +16,26 @@ use crate::slot::Place;
 use crate::undo::{Point, Undo, clear, close, rewind, sweep};
 use crate::walk::{find, first_from};
 use base_types::{Copied, TableFault};
+use indexmap::IndexMap;
 use std::alloc::Global;
 use std::collections::BTreeMap;
+use std::hash::Hash;
 use std::marker::Model;
 use std::ops::Bound;
 
 /// The longest list of touched keys whose room is kept when the table settles: a block's is mostly shorter.
-const ROOM_KEPT: usize = 64;
+const ROOM_KEPT: usize = 1024;
 
 /// Entries in the order of their keys, with open marks. A mark keeps no copy: each later change notes what
 /// undoes it. A key that is touched has a place in the tree until the table is settled, empty where it has
 /// no value, and the place is stamped with where the key is listed. So the list is asked without a search,
 /// and going back only writes to places, which wants no memory.
 #[derive(Drop)]
-pub(crate) struct Places<K: Ord + Copied, V: Copied> {
+pub(crate) struct Places<K: Ord + Hash + Copied, V: Copied> {
     alloc: Global,
     tree: BTreeMap<K, Place<K, V>>,
     /// The keys that were touched since the last settling, each with the value that it had then.
-    touched: Vec<(K, Option<V>)>,
+    touched: IndexMap<K, Option<V>>,
     /// What undoes the changes since the earliest open mark, the latest change last.
     log: Vec<Undo<K, V>>,
     /// The point after the latest change.
@@ -42,7 +44,7 @@ pub(crate) struct Places<K: Ord + Copied, V: Copied> {
     depth: usize,
 }
 
-impl<K: Ord + Copied, V: Copied> Model for Places<K, V> {
+impl<K: Ord + Hash + Copied, V: Copied> Model for Places<K, V> {
     ghost use Rattle.base_table.specs.Places.{filled, marks_of, slots, stamps, AreStamped, IsKept, Marked};
 
     ghost Value = { Marked K V };
@@ -50,14 +52,14 @@ impl<K: Ord + Copied, V: Copied> Model for Places<K, V> {
     ghost view = { λ p. record {
       entries = filled (slots p.tree.entries);
       marks = marks_of K.cmp p.log.items p.here.marks (slots p.tree.entries);
-      touched = p.touched.items;
+      touched = p.touched.entries;
     } };
 
     ghost invariant = { λ p. IsKept K.cmp p.log.items p.here p.depth (slots p.tree.entries)
-        × AreStamped K.cmp 0 p.touched.items (stamps p.tree.entries) };
+        × AreStamped K.cmp 0 p.touched.entries (stamps p.tree.entries) };
 }
 
-impl<K: Ord + Copied, V: Copied> Places<K, V> {
+impl<K: Ord + Hash + Copied, V: Copied> Places<K, V> {
     /// No entries, no mark, and nothing touched.
     pub(crate) fn new(alloc: Global) -> Places<K, V>
         ensures { result ≡ record { entries = []; marks = []; touched = [] } }
@@ -65,7 +67,7 @@ impl<K: Ord + Copied, V: Copied> Places<K, V> {
         Places {
             alloc,
             tree: BTreeMap::new(alloc),
-            touched: Vec::new(alloc),
+            touched: IndexMap::new(alloc),
             log: Vec::new(alloc),
             here: Point { marks: 0, len: 0 },
             depth: 0,
@@ -83,12 +85,12 @@ impl<K: Ord + Copied, V: Copied> Places<K, V> {
     }
 
     /// The touched list.
-    pub(crate) fn touched(&self) -> &[(K, Option<V>)]
-        ensures list { result.now ≡ self.now.touched }
+    pub(crate) fn touched(&self) -> &IndexMap<K, Option<V>>
+        ensures list { result.now.entries ≡ self.now.touched }
         ensures distinct { IsDistinct (eq_by_cmp K.cmp) (keys_of self.now.touched) }
     {
-        // It tells that the keys ascend.
-        let _ = self.tree.len();
+        // It tells that no key is listed twice.
+        let _ = self.touched.len();
         &self.touched
     }
 
@@ -141,19 +143,17 @@ impl<K: Ord + Copied, V: Copied> Places<K, V> {
         let has = value.is_some();
         let noted = key.copied()?;
         self.log.reserve(1)?;
-        self.touched.reserve(1)?;
-        let found = exchange(self.alloc, &mut self.tree, &self.touched, key, value)?;
-        let len = len_after(self.here.len, found.before.is_full(), has);
+        let before = exchange(self.alloc, &mut self.tree, &mut self.touched, key, value)?;
+        let len = len_after(self.here.len, before.is_full(), has);
         note(
             &mut self.log,
             self.depth > 0,
             Undo {
                 key: noted,
-                before: found.before,
+                before,
                 point: self.here,
             },
         );
-        list(&mut self.touched, found.unlisted);
         self.here = Point { marks: 0, len };
         Ok(())
     }
@@ -241,23 +241,13 @@ fn note<K: Copied, V: Copied>(log: &mut Vec<Undo<K, V>>, marked: bool, undo: Und
     }
 }
 
-/// Lists a key that is yet to be listed. There is room for it.
-fn list<P: Drop>(touched: &mut Vec<P>, unlisted: Option<P>)
-    requires { vec_len touched.old < vec_capacity touched.old }
-    ensures { touched.new.items ≡ touched.old.items ++ option_to_list unlisted }
-{
-    if let Some(pair) = unlisted {
-        touched.push_reserved(pair);
-    }
-}
-
-/// Empties a list: a short one keeps its room, and a long one is let go of, so that no later one pays for it.
-fn empty<T: Drop>(alloc: Global, list: &mut Vec<T>)
-    ensures { list.new.items ≡ [] }
+/// Empties a list, in time in proportion to its keys: a short one keeps its room, and a long one is let go of.
+fn empty<K: Ord + Hash + Copied, V: Copied>(alloc: Global, list: &mut IndexMap<K, Option<V>>)
+    ensures { list.new.entries ≡ [] }
 {
     if list.len() <= ROOM_KEPT {
-        list.clear();
+        list.truncate(0);
     } else {
-        *list = Vec::new(alloc);
+        *list = IndexMap::new(alloc);
     }
 }

@@ -10,7 +10,9 @@ ghost use Rattle.base_table.specs.Tabled.{empty_table, entry_above, entry_from, 
 
 use crate::places::Places;
 use base_types::{Copied, Steps, TableFault};
+use indexmap::IndexMap;
 use std::alloc::Global;
+use std::hash::Hash;
 use std::marker::Model;
 use std::sync::ledger::Ledger;
 
@@ -21,12 +23,12 @@ use std::sync::ledger::Ledger;
 /// latest open one is gone back to or forgotten first. A mark keeps no copy: while one is open, each change
 /// notes what undoes it.
 #[derive(Drop)]
-pub struct Table<K: Ord + Copied, V: Copied> {
+pub struct Table<K: Ord + Hash + Copied, V: Copied> {
     places: Places<K, V>,
     spent: bool,
 }
 
-impl<K: Ord + Copied, V: Copied> Model for Table<K, V> {
+impl<K: Ord + Hash + Copied, V: Copied> Model for Table<K, V> {
     ghost use Rattle.base_table.specs.Restored.{restored, MarksRestore};
     ghost use Rattle.base_table.specs.Tabled.{Tabled};
 
@@ -44,7 +46,7 @@ impl<K: Ord + Copied, V: Copied> Model for Table<K, V> {
         (restored K.cmp t.places.touched t.places.entries) t.places.marks };
 }
 
-impl<K: Ord + Copied, V: Copied> Table<K, V> {
+impl<K: Ord + Hash + Copied, V: Copied> Table<K, V> {
     /// An empty table, which counts as settled. It takes no memory yet.
     pub fn new(alloc: Global) -> Table<K, V>
         ensures { result ≡ empty_table }
@@ -207,8 +209,8 @@ impl<K: Ord + Copied, V: Copied> Table<K, V> {
 
     /// The keys put or removed since the table was last settled, in the order of their first touch, each
     /// with the value that it had then, or None where it had none.
-    pub fn touched(&self) -> &[(K, Option<V>)]
-        ensures list { result.now ≡ self.now.touched }
+    pub fn touched(&self) -> &IndexMap<K, Option<V>>
+        ensures list { result.now.entries ≡ self.now.touched }
         ensures settled { TellsSettled K.cmp self.now }
     {
         // They tell that the keys ascend, and that none is listed twice.
@@ -234,7 +236,7 @@ impl<K: Ord + Copied, V: Copied> Table<K, V> {
 }
 
 /// Puts a value under a key, and touches the key. Where memory is wanting, nothing changes.
-fn put_in<K: Ord + Copied, V: Copied>(
+fn put_in<K: Ord + Hash + Copied, V: Copied>(
     places: &mut Places<K, V>,
     key: &K,
     value: V,
@@ -256,7 +258,7 @@ fn put_in<K: Ord + Copied, V: Copied>(
 
 /// Takes a key out and touches it, and answers a copy of the value that it had. Where memory is wanting,
 /// nothing changes.
-fn take_out<K: Ord + Copied, V: Copied>(
+fn take_out<K: Ord + Hash + Copied, V: Copied>(
     places: &mut Places<K, V>,
     key: &K,
 ) -> Result<Option<V>, TableFault>

@@ -6,7 +6,9 @@ ghost use Rattle.base_table.specs.Places.{filled, marks_of, put_back_slot, slots
 
 use crate::slot::{Place, Slot};
 use base_types::Copied;
+use indexmap::IndexMap;
 use std::collections::BTreeMap;
+use std::hash::Hash;
 
 /// A point between two changes.
 #[derive(Clone, Copy)]
@@ -112,9 +114,9 @@ where
 }
 
 /// Takes the empty places of these keys out, where there are more places than so many entries.
-pub(crate) fn sweep<K: Ord + Copied, V: Copied>(
+pub(crate) fn sweep<K: Ord + Hash + Copied, V: Copied>(
     tree: &mut BTreeMap<K, Place<K, V>>,
-    keys: &[(K, Option<V>)],
+    keys: &IndexMap<K, Option<V>>,
     len: usize,
 )
     ensures entries { filled (slots tree.new.entries) ≡ filled (slots tree.old.entries) }
@@ -124,7 +126,7 @@ pub(crate) fn sweep<K: Ord + Copied, V: Copied>(
     if tree.len() <= len {
         return;
     }
-    for (key, _) in keys {
+    for key in keys.keys() {
         clear_empty(tree, key);
     }
 }

@@ -9,6 +9,7 @@ ghost use Rattle.mod_entries.specs.Sources.{IsLeast};
 
 use base_roles::{RedelegationEntry, UnbondingEntry};
 use base_types::{Addr, Copied, Moment};
+use std::hash::Hash;
 
 /// An entry that was made at a height and completes at a moment.
 pub trait Entry: Copied + Copy {
@@ -29,7 +30,7 @@ pub trait Entry: Copied + Copy {
 }
 
 /// What entries are kept by.
-pub trait EntryKey: Ord + Copied + Copy {
+pub trait EntryKey: Ord + Hash + Copied + Copy {
     /// The operator that the entries are from.
     ghost source: { Self → List ℕ };
 

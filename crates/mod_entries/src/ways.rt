@@ -14,6 +14,7 @@ use base_records::mark_both;
 use base_table::{Table, TableFault};
 use base_types::{Addr, Copied, Moment, Steps};
 use std::alloc::Global;
+use std::hash::Hash;
 use std::sync::ledger::Ledger;
 
 /// The ways to a key: under the earliest completion of its entries, so that what completes first is found
@@ -144,7 +145,7 @@ impl<K: EntryKey> Ways<K> {
 }
 
 /// Takes a key out from under its place, where it has one.
-fn unqueue<P: Ord + Copied + Copy, K: EntryKey, L: Ledger>(
+fn unqueue<P: Ord + Hash + Copied + Copy, K: EntryKey, L: Ledger>(
     way: &mut Table<(P, K), bool>,
     key: &K,
     was: Option<P>,
@@ -162,7 +163,7 @@ fn unqueue<P: Ord + Copied + Copy, K: EntryKey, L: Ledger>(
 }
 
 /// Puts a key under its place, where it has one.
-fn enqueue<P: Ord + Copied + Copy, K: EntryKey, L: Ledger>(
+fn enqueue<P: Ord + Hash + Copied + Copy, K: EntryKey, L: Ledger>(
     way: &mut Table<(P, K), bool>,
     key: &K,
     now: Option<P>,

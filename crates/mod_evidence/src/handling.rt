@@ -1,7 +1,7 @@
 //! Evidence of double signing: its validator is slashed, jailed and tombstoned (`x/evidence`:
 //! `HandleEquivocationEvidence`).
 
-ghost use Rattle.std.specs.Prelude.{◌≡◌, ℕ, ◌+◌, ◌*◌, ◌^◌, ◌≤◌, ◌++◌, false, List, Some, None, IsSome, if◌then◌else◌, OnOk, IfOk, IfErr};
+ghost use Rattle.std.specs.Prelude.{◌≡◌, ℕ, ◌+◌, ◌*◌, ◌^◌, ◌≤◌, ◌++◌, true, false, List, Some, None, IsSome, if◌then◌else◌, OnOk, IfOk, IfErr};
 ghost use Rattle.std.specs.Option.{option_copied};
 ghost use Rattle.base_types.specs.Orders.{cons_cmp};
 ghost use Rattle.base_roles.specs.declared.facts.Fact.{Fact};
@@ -93,6 +93,64 @@ pub fn equivocation<B: Bank, H: StakingHooks, S: Slasher, N: Signers, L: Ledger>
     if !can_be_banned(signers.info(&e.cons, steps)) {
         return Ok(false);
     }
+    punish(alloc, g, hooks, slasher, signers, e, operator, steps)
+}
+
+/// Evidence that is punished: its validator is slashed, then jailed where it is not jailed then, then banned for
+/// ever, which is told by a fact. The errors are those of [`equivocation`].
+fn punish<B: Bank, H: StakingHooks, S: Slasher, N: Signers, L: Ledger>(
+    alloc: Global,
+    g: &mut Ground<B>,
+    hooks: &mut H,
+    slasher: &mut S,
+    signers: &mut N,
+    e: &Evidence,
+    operator: Addr,
+    steps: &mut Steps<L>,
+) -> Result<bool, HookFault>
+    requires accused { accused g.old.ctx e.now
+        (validator_by_cons (S.stake (S.held slasher.old)) e.now.cons) ≡ Some operator }
+    requires free { can_be_banned (at cons_cmp (N.infos (N.held signers.old)) e.now.cons) ≡ true }
+    requires power { e.now.power * g.old.ctx.params.power_reduction ≤ 10 ^ 18 }
+    requires sound { S.sound (S.held slasher.old) }
+    requires signers { N.sound (N.held signers.old) }
+    requires stand { Stands (H.holds hooks.old) H.tells (seen B.holdings g.old)
+        (lists_of (S.stake (S.held slasher.old))) }
+    requires accounts { HoldsStake (seen B.holdings g.old) (bonded_tokens
+        (S.stake (S.held slasher.old)))
+        (other_tokens (S.stake (S.held slasher.old)) + S.owed (S.held slasher.old)) }
+
+    ensures told { (h : H.Held) → H.holds hooks.old h → (log : Log) → Handles
+        (equivocation_handled (record {
+          stake = S.stake;
+          slash = S.slashes H.Held H.tells.told;
+          jail = S.jails;
+        }) (lent_bans N.infos N.bans) e.now (N.held signers.old) (record {
+          mine = S.held slasher.old;
+          hooks = h;
+          view = seen B.holdings g.old;
+          log = log;
+        })) (N.held signers.new) (S.held slasher.new) (H.holds hooks.new)
+        (seen B.holdings g.new) result }
+    ensures punished { IfOk result (λ done. done ≡ is_punished g.old.ctx e.now
+        (validator_by_cons (S.stake (S.held slasher.old)) e.now.cons)
+        (at cons_cmp (N.infos (N.held signers.old)) e.now.cons)) }
+    ensures falls { OnOk result (StakeFalls (seen B.holdings g.old) (seen B.holdings g.new)
+        (bonded_tokens (S.stake (S.held slasher.old))) (other_tokens (S.stake (S.held slasher.old))
+        + S.owed (S.held slasher.old)) (bonded_tokens (S.stake (S.held slasher.new)))
+        (other_tokens (S.stake (S.held slasher.new)) + S.owed (S.held slasher.new))) }
+    ensures sound { OnOk result (S.sound (S.held slasher.new)) }
+    ensures signers { OnOk result (N.sound (N.held signers.new)) }
+    ensures stand { OnOk result (Stands (H.holds hooks.new) H.tells (seen B.holdings g.new)
+        (lists_of (S.stake (S.held slasher.new)))) }
+
+    // Whatever the answer.
+    ensures undone { CanBeUndone B.marks g.old g.new }
+    ensures bank { B.most_steps g.new.bank ≡ B.most_steps g.old.bank }
+    ensures marks { S.marks slasher.new ≡ S.marks slasher.old }
+    ensures signer_marks { N.marks signers.new ≡ N.marks signers.old }
+    ensures hook_marks { H.marks hooks.new ≡ H.marks hooks.old }
+{
     let factor = g.ctx.params.slash_fraction_double_sign;
     let infraction = e.height.saturating_sub(1);
     slasher.slash(alloc, g, hooks, &e.cons, infraction, e.power, factor, steps)?;

@@ -5,9 +5,10 @@ ghost use Rattle.mod_periods.specs.Grouped.{IsGrouped};
 ghost use Rattle.mod_periods.specs.GroupedKeys.{periods_are_grouped, events_are_grouped};
 
 use base_types::{Addr, Copied};
+use std::hash::Hash;
 
 /// A key that begins with an operator, in an order that keeps those of one operator together.
-pub(crate) trait Keyed: Ord + Copied {
+pub(crate) trait Keyed: Ord + Hash + Copied {
     ghost operator_of: { Self → List ℕ };
 
     ghost first_of: { List ℕ → Self };

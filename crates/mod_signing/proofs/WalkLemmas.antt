@@ -5,7 +5,7 @@ use Rattle.base_types.specs.Orders.{cons_cmp}
 use Rattle.base_table.specs.Tabled.{entry_above, value_at}
 use Rattle.base_roles.specs.{declared.items.Item.Item, Entries.{at, number_at}}
 use Rattle.base_records.specs.Items.{change_of, changes_of}
-use Rattle.base_records.proofs.WalkLemmas.{Walked, walked-all, Told, told-all, told-same, told-more}
+use Rattle.base_records.proofs.WalkLemmas.{Walked, walked-all, Told, told-same, told-more}
 use Rattle.mod_signing.specs.{declared.entry.Entry.Entry, Kept.kept_of}
 use Rattle.mod_signing.specs.Rings.{Rows, is_set, place_set, places_of, ring_of, row_cmp}
 use Rattle.mod_signing.specs.Items.{items_of, same_signed, signed_over, signing_gone, signing_item, touched_over}
@@ -39,12 +39,6 @@ module _ (settled rows : Rows) (start : List (Item × Bool)) (touched : List (Li
   change_is : (cons : List ℕ) (was : Option Entry) (x : Option (Item × Bool)) → signing_change settled rows cons was (at cons_cmp es cons) ≡ x
       → change_of signing_item signing_gone same_signed cons (option_map (signed_over settled cons) was) (value_at cons_cmp (kept_of es rows) cons) ≡ x
   change_is cons was x e = ap (change_of signing_item signing_gone same_signed cons (option_map (signed_over settled cons) was)) (signed_found es rows cons) ∙ e
-
-  -- at the end all are told
-  pub signings-all : (out : List (Item × Bool)) (left : List (List ℕ × Option Entry)) → left ≡ [] → ToldSignings settled rows start touched es out left
-      → out ≡ start ++ changes_of cons_cmp signing_item signing_gone same_signed (touched_over settled touched) (kept_of es rows)
-  signings-all out left none t =
-      told-all cons_cmp signing_item signing_gone same_signed start (touched_over settled touched) (kept_of es rows) out (touched_over settled left) (ap (touched_over settled) none) t
 
   pub signings-same : (out : List (Item × Bool)) (left rest : List (List ℕ × Option Entry)) (cons : List ℕ) (was : Option Entry) → ToldSignings settled rows start touched es out left → left ≡ (cons, was) ∷ rest
       → signing_change settled rows cons was (at cons_cmp es cons) ≡ None → ToldSignings settled rows start touched es out rest

@@ -71,8 +71,7 @@ pub(crate) fn changes_into<L: Ledger>(
 {
     entries.known();
     rows.known();
-    let touched = entries.touched();
-    for (cons, was) in touched {
+    for (cons, was) in entries.touched().iter() {
         let now = entries.get(cons, steps);
         if let Some(change) = change_of(alloc, rows, cons, was, now, steps)? {
             out.push(change)?;

@@ -11,6 +11,7 @@ use base_table::{Table, TableFault};
 use base_types::{Addr, Copied, Moment, Steps};
 use std::alloc::Global;
 use std::cmp::Ordering;
+use std::hash::Hash;
 use std::sync::ledger::Ledger;
 
 /// The operators of the validators that have a place, in the order of places.
@@ -179,7 +180,7 @@ fn is_same_place<K: Ord>(from: &Option<K>, to: &Option<K>) -> bool
 }
 
 /// What stands at the place, where there is one, leaves a list.
-fn leave<K: Ord + Copied, L: Ledger>(
+fn leave<K: Ord + Hash + Copied, L: Ledger>(
     list: &mut Table<K, Addr>,
     from: &Option<K>,
     steps: &mut Steps<L>,
@@ -199,7 +200,7 @@ fn leave<K: Ord + Copied, L: Ledger>(
 }
 
 /// An operator joins a list at the place, where there is one.
-fn join<K: Ord + Copied, L: Ledger>(
+fn join<K: Ord + Hash + Copied, L: Ledger>(
     list: &mut Table<K, Addr>,
     to: &Option<K>,
     operator: &Addr,

@@ -12,10 +12,11 @@ ghost use Rattle.mod_staking.specs.Places.{standing_cmp, power_place, bonded_pla
 use base_roles::Validator;
 use base_types::{Addr, BondStatus, Copied, Moment, TableFault};
 use std::cmp::Ordering;
+use std::hash::Hash;
 
 /// A place in the order of power. The one with more power comes first, of two with the same power that of
 /// the lower operator.
-#[derive(Clone, Copy, Debug, PartialEq, Eq)]
+#[derive(Clone, Copy, Debug, PartialEq, Eq, Hash)]
 pub(crate) struct Standing {
     pub power: u128,
     pub operator: Addr,
@@ -61,7 +62,7 @@ impl Copied for Standing {
 
 /// A list of validators: who is listed, and at which place.
 pub(crate) trait Listing {
-    type Place: Ord + Copied;
+    type Place: Ord + Hash + Copied;
 
     // the place of a validator, for so many tokens of one unit of power
     ghost place_of: { ℕ → Validator → Option Self.Place };

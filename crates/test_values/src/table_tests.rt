@@ -31,8 +31,8 @@ fn a_table_goes_back_and_lists_what_was_touched(rt: HostRuntime) {
     assert!(rt; table.len() == 1);
     let touched = table.touched();
     assert!(rt; touched.len() == 2);
-    assert!(rt; touched.first() == Some(&(2, None)));
-    assert!(rt; touched.get(1) == Some(&(1, Some(10))));
+    assert!(rt; touched.get_index(0) == Some((&2, &None)));
+    assert!(rt; touched.get_index(1) == Some((&1, &Some(10))));
 }
 
 #[test]
@@ -65,8 +65,8 @@ fn a_settled_table_lists_anew(rt: HostRuntime) {
     let table = touched_again::<Brand>(&rt, Blank::new(1));
     let touched = table.touched();
     assert!(rt; touched.len() == 2);
-    assert!(rt; touched.first() == Some(&(2, Some(20))));
-    assert!(rt; touched.get(1) == Some(&(1, Some(10))));
+    assert!(rt; touched.get_index(0) == Some((&2, &Some(20))));
+    assert!(rt; touched.get_index(1) == Some((&1, &Some(10))));
 }
 
 const KEYS: u64 = 10_000;

@@ -10,7 +10,7 @@ invariant_of-self g c =
       IsKept-closed c.rewind.new.log.items c.clear.new.log.items (c.rewind.new.here.marks - 1) c.rewind.new.here.len (c.self.inside.depth - 1) ps
           (fewer _ _ _ c.self.inside.depth closed c.self.invariant.0.count) (record { len = c.rewind.ensures.fits.len; named = c.rewind.ensures.fits.named }) c.rewind.ensures.below c.rewind.ensures.placed
           c.clear.ensures.open c.clear.ensures.log,
-      subst (AreStamped g.K.Ord.cmp 0 c.self.inside.touched.items) (sym c.rewind.ensures.stamps) c.self.invariant.1,
+      subst (AreStamped g.K.Ord.cmp 0 c.self.inside.touched.entries) (sym c.rewind.ensures.stamps) c.self.invariant.1,
     )
 
 pub returns-clause-restored : goal.returns-clause-restored

@@ -1,0 +1,1 @@
+"""Sheets that are made of a run's lines."""

@@ -1,0 +1,1 @@
+"""Stores, row by row."""
