@@ -1,5 +1,5 @@
 -- Counts of faults move with the status.
-use Rattle.std.proofs.Common.{◌≡◌, ◌⊎◌, ◌<◌, inl, inr, ℕ, Bool, true, false, List, Result, Ok, Err, IfErr, refl, subst}
+use Rattle.std.proofs.Common.{◌≡◌, ◌⊎◌, ◌<◌, inl, inr, ℕ, Bool, true, false, List, Result, Ok, Err, IfErr, refl, subst, arith}
 use Rattle.base_io.specs.Outside.{Rose}
 use Rattle.run_app.specs.declared.progress.Ending.{Ending}
 use Rattle.run_app.specs.declared.progress.Ending.TheVariants as ending
@@ -77,6 +77,25 @@ still_read every BadStore before now h = h
 still_read every (WrongStore is_empty) before now h = h
 still_read every NotFound before now h = h
 still_read every (NoPast base last) before now h = h
+
+one_so : (before now : ℕ) → (now ≡ before) ⊎ ((1 < 1) × Rose before now) → now ≡ before
+one_so before now (inl same) = same
+one_so before now (inr h) = let never : 1 < 1 = h.0 in absurd (omega (arith, never))
+
+-- where it is each block it moves as the others
+pub one_read : (s : Status) (before now : ℕ) → ReadMoved 1 s before now → Moved (is_read_fault s) before now
+one_read Done before now h = h
+one_read Usage before now h = h
+one_read (BadInput n fault) before now h = h
+one_read (Limit n kind) before now h = h
+one_read ReadFault before now h = h
+one_read WriteFault before now h = one_so before now h
+one_read KeepFault before now h = one_so before now h
+one_read NoMemory before now h = one_so before now h
+one_read BadStore before now h = h
+one_read (WrongStore is_empty) before now h = h
+one_read NotFound before now h = h
+one_read (NoPast base last) before now h = h
 
 pub quiet_read : (every : ℕ) (s : Status) (before now : ℕ) → is_read_fault s ≡ false → now ≡ before → ReadMoved every s before now
 quiet_read every s before now none same = still_read every s before now (rw none same)

@@ -369,7 +369,7 @@ pub(crate) fn carry_out<S: Source, K: Sink, D: Keeper>(
 
 /// Runs the command of these words: `replay`, `resume`, `query` with a kind and perhaps an address, `tally`, `check`,
 /// `statement DELEGATOR OPERATOR`, `gen SEED COUNT` or `trial SEED COUNT`; `replay` and `resume` may stand behind the word
-/// `keep`, `query` behind the words `past HEIGHT`, and each behind the word `bech32`, which stands before all others. Addresses
+/// `keep` or the words `every N`, `query` behind the words `past HEIGHT`, and each behind the word `bech32`, which stands before all others. Addresses
 /// are read and written as forty hexadecimal digits, and behind `bech32` as their spellings of BIP 173 alone, modules being
 /// written by their names. Nothing else depends on that word: what is kept has no texts of addresses, so either form goes on
 /// from a store.
@@ -388,6 +388,9 @@ pub(crate) fn carry_out<S: Source, K: Sink, D: Keeper>(
 /// call the keeper. `gen` writes the generated input, and `trial` the summary of it, which a chain takes block by block;
 /// neither takes anything from the source, or calls the keeper.
 ///
+/// Behind `every N` it commits at each Nth block, once a mebibyte of text waits, and where no more lines are taken; what was
+/// answered since the last commit is written after it. The genesis is committed and written alone. Without these words N is 1.
+///
 /// Behind `keep`, each commit also keeps what its rows replaced, in rows of the keeper whose keys begin with the byte 0x60
 /// or 0x61; what is said of rows is then said of the others, which are visible. A history that stands there goes on, and else
 /// one begins; a commit that brings rows to the second format begins it anew. Behind `past HEIGHT` a question is answered from
@@ -397,14 +400,16 @@ pub(crate) fn carry_out<S: Source, K: Sink, D: Keeper>(
 /// What each status leaves: at `Done` the whole output, flushed; at `Usage` nothing was read or written; at `BadInput` and
 /// `Limit` exactly the texts of the lines before the named one, and of a trial, a tally and `statement` nothing; at `ReadFault`
 /// those of all lines that were taken with their end, and of a tally and `statement` nothing; at `WriteFault` all texts before
-/// the one being written and a part of that, or the whole output where the flush failed; at `KeepFault` those of the lines
-/// before the one whose commit failed, and nothing where the rows were not loaded or not brought to the second format; at
+/// those being written, of at most N lines, and a part of these, or the whole output where the flush failed; at `KeepFault`
+/// those of the lines before those whose commit failed, and nothing where the rows were not loaded or not brought to the
+/// second format; at
 /// `NoMemory` a front of the whole output; at `WrongStore`, `BadStore`, `NotFound` and `NoPast` nothing. What was taken and
 /// written is what the source and the sink tell, where they tell it. The keeper's rows are those of the last committed line, as
 /// they were where there is none (in the second format, once they were brought to it): of the lines whose texts were written,
-/// and at `WriteFault` and `NoMemory` of one line more. A stop at a fault of the keeper may also leave the rows that were to be
-/// committed. `ReadFault`, `WriteFault` and `KeepFault` come only where the count of the source's, the sink's, the keeper's
-/// faults rose in this call, and that count rises at no other status.
+/// and at `WriteFault` and `NoMemory` of at most N lines more. A stop at a fault of the keeper may also leave the rows that were
+/// to be committed. `ReadFault`, `WriteFault` and `KeepFault` come only where the count of the source's, the sink's, the
+/// keeper's faults rose in this call, and that count rises at no other status; but where N is above 1 and lines wait at a fault
+/// of the source, which are then not kept or not written, the run ends by that later fault.
 ///
 /// Of `check` the member 130 is also at fault where the entries of a statement are no span, and so of `statement` where those
 /// of a payment are none; of both `Limit` with `Bound` comes exactly where an operation of a statement's bounds is over.
