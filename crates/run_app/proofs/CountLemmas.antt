@@ -1,9 +1,9 @@
 -- Counts of faults move with the status.
-use Rattle.std.proofs.Common.{◌≡◌, ◌⊎◌, ◌<◌, inl, inr, ℕ, Bool, true, false, List, Result, Ok, Err, IfErr, refl, subst, arith}
+use Rattle.std.proofs.Common.{◌≡◌, ◌⊎◌, ◌<◌, inl, inr, ℕ, Bool, true, false, List, Result, Ok, Err, IfErr, refl, ap, subst, arith}
 use Rattle.base_io.specs.Outside.{Rose}
 use Rattle.run_app.specs.declared.progress.Ending.{Ending}
 use Rattle.run_app.specs.declared.progress.Ending.TheVariants as ending
-use Rattle.run_app.specs.declared.status.{EndStop.EndStop, LineStop.LineStop, Status.Status}
+use Rattle.run_app.specs.declared.status.{EndStop.EndStop, InputFault.InputFault, LineStop.LineStop, Status.Status}
 use Rattle.run_app.specs.declared.status.Status.TheVariants.{Done, Usage, BadInput, Limit, ReadFault, WriteFault, KeepFault, NoMemory, BadStore, WrongStore, NotFound, NoPast}
 use Rattle.run_app.specs.{Counts.{Moved, ReadMoved, is_keep_fault, is_read_fault, is_write_fault}, Ending.status_of}
 use Rattle.run_app.specs.Outcome.{HasBegun, UnlessReadFault, UnlessWriteFault}
@@ -122,7 +122,7 @@ either s before now h = by (is_read_fault s) h
     by false h = inl h
 
 -- where lines wait at a fault of the source, and are then lost
-pub lost_read : (every : ℕ) (why : LineStop) (ending : Ending) (before now : ℕ) → IsLoss why → 1 < every → Moved (is_read (Ok ending)) before now → ReadMoved every (status_of why) before now
+pub lost_read : (every : ℕ) (why : LineStop) (e : Ending) (before now : ℕ) → IsLoss why → 1 < every → Moved (is_read (Ok e)) before now → ReadMoved every (status_of why) before now
 lost_read every why ending.End before now of more h = lost_so every why before now of more (inl h)
 lost_read every why (ending.Before s) before now of more h = lost_so every why before now of more (either s before now h)
 
@@ -335,6 +335,9 @@ ending_keeps stops.Keep before now h = h
 ending_keeps stops.NoMemory before now h = h
 
 -- ---- by the stop of the end
+
+pub missing_so : {X : Type 0} (why : EndStop) (n : ℕ) (fault : InputFault) → ◌≡◌ {A = Result X EndStop} (Err why) (Err (ends.Lacking n fault)) → status_at_end why ≡ BadInput n fault
+missing_so why n fault e = let same : why ≡ ends.Lacking n fault = cc in ap status_at_end same
 
 pub end_reads : (why : EndStop) → is_read_fault (status_at_end why) ≡ false
 end_reads (ends.Lacking n fault) = refl

@@ -141,7 +141,7 @@ read_paused form W taken rest end short waits = record { short = short; lines = 
 -- the bytes were those of the source
 pub paused_from : (form : Form) (every : ℕ) (first : Standing) (L : Standing → Standing → Type 0) (W : List (List ℕ) → Standing → Type 0) (left left' from w : Option (List ℕ)) (taken rest : List ℕ) (r : Result Ending Status) → TakesFrom left left' taken rest
     → MatchResult r (IsPaused form taken rest W) (EndsSo form every first L taken rest from w) → MatchResult r (Pauses form left left' W) (RunEnds form every first L left left' from w)
-paused_from form every first L W left left' from w taken rest (Ok ending) told h = (taken, rest, told, h)
+paused_from form every first L W left left' from w taken rest (Ok e) told h = (taken, rest, told, h)
 paused_from form every first L W left left' from w taken rest (Err status) told h = (taken, rest, h.0, told, h.1, h.2)
 
 pub ends_from : (form : Form) (every : ℕ) (first : Standing) (L : Standing → Standing → Type 0) (left left' from w : Option (List ℕ)) (taken rest : List ℕ) (status : Status) → TakesFrom left left' taken rest → EndsSo form every first L taken rest from w status → RunEnds form every first L left left' from w status
@@ -157,7 +157,7 @@ limit_lost form every s0 L taken first left from w why full told h =
 
 -- what waited was released
 module _ (form : Form) (every : ℕ) (b : Began) (taken : List ℕ) (end : Standing) (number : ℕ) (line : List ℕ) (chain : Option Chained) (waiting : ℕ) (held : List ℕ) (from w : Option (List ℕ)) (told : Option (List Pair)) (honest : Type 0) (leaves : List Pair → Type 0) (full : length taken ≡ most_bytes) (k : Fed form 1 b taken end number line chain waiting held from w told honest leaves) (first : Option (List ℕ)) where
-  abbrev L : Standing → Standing → Type 0
+  abbrev pub L : Standing → Standing → Type 0
   L = LeftIn b told honest leaves
 
   -- the source failed

@@ -112,7 +112,7 @@ none_there (Some x) h = absurd (h x refl)
 -- ---- a line
 
 module _ (form : Form) (every : ℕ) (b : Began) (lines : List (List ℕ)) (end : Standing) (n : ℕ) (line : List ℕ) (o : Option Chained) (waiting : ℕ) (held : List ℕ) (from w : Option (List ℕ)) (told : Option (List Pair)) (honest : Type 0) (leaves : List Pair → Type 0) (k : Stands form every b lines end n o waiting held from w told honest leaves) (short : length line ≤ longest) where
-  abbrev all : List (List ℕ) → List (List ℕ)
+  abbrev pub all : List (List ℕ) → List (List ℕ)
   all more = lines ++ line ∷ more
 
   -- where a line that has a fault leaves what waits

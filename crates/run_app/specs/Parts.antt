@@ -13,21 +13,20 @@ use Rattle.run_app.specs.declared.status.LimitKind.TheVariants.{Line, Ratio}
 use Rattle.run_app.specs.declared.status.LineStop.{LineStop}
 use Rattle.run_app.specs.declared.status.LineStop.TheVariants as stop
 use Rattle.run_app.specs.declared.status.EndStop.{EndStop}
-use Rattle.run_app.specs.declared.status.EndStop.TheVariants as end
+use Rattle.run_app.specs.declared.status.EndStop.TheVariants as ends
 use Rattle.run_app.specs.Counts.{is_keep_fault, is_read_fault, is_write_fault}
 use Rattle.run_app.specs.Kept.{Began, Keeping}
 use Rattle.run_app.specs.Lines.{whole_from, rest_from, lines_of}
 use Rattle.run_app.specs.Machine.{Standing, Answer, longest, line_answer}
 use Rattle.run_app.specs.Outcome.{AreEnded, Ends, most_bytes}
 use Rattle.run_app.specs.Runs.{AreAnswered, Wrote, Unkept, Held, Answered, Reported, Lacking, Finished}
-use Rattle.run_app.specs.Ending.{status_of}
 use Rattle.run_app.specs.Told.{TakesFrom}
 
 abbrev pub status_at_end : EndStop → Status
-status_at_end (end.Lacking n fault) = BadInput n fault
-status_at_end end.Report = WriteFault
-status_at_end end.Flush = WriteFault
-status_at_end end.NoMemory = NoMemory
+status_at_end (ends.Lacking n fault) = BadInput n fault
+status_at_end ends.Report = WriteFault
+status_at_end ends.Flush = WriteFault
+status_at_end ends.NoMemory = NoMemory
 
 -- how a run ends whose end came to this
 abbrev pub status_of_end : Result ⊤ EndStop → Status
@@ -118,12 +117,12 @@ PartStops form every first L W all ended from written stop.NoMemory = Loses form
 
 -- how a line that is not answered ends a run: by this status, once what waits was released, or at once
 abbrev pub ending_of : LineStop → Result Ending Status
-ending_of (stop.BadInput m fault) = Ok (ending.Before (status_of (stop.BadInput m fault)))
-ending_of (stop.Long m) = Ok (ending.Before (status_of (stop.Long m)))
-ending_of (stop.Ratio m over) = Ok (ending.Before (status_of (stop.Ratio m over)))
-ending_of stop.Write = Err (status_of stop.Write)
-ending_of stop.Keep = Err (status_of stop.Keep)
-ending_of stop.NoMemory = Err (status_of stop.NoMemory)
+ending_of (stop.BadInput m fault) = Ok (ending.Before (BadInput m fault))
+ending_of (stop.Long m) = Ok (ending.Before (Limit m Line))
+ending_of (stop.Ratio m over) = Ok (ending.Before (Limit m (Ratio over)))
+ending_of stop.Write = Err WriteFault
+ending_of stop.Keep = Err KeepFault
+ending_of stop.NoMemory = Err NoMemory
 
 -- Why a run ends by this status behind lines that led to this standing, where these bytes were taken: the source failed, or the line
 -- behind them has a fault, or is too long whatever is still to come.
@@ -150,7 +149,7 @@ IsPaused form taken rest W (ending.Before status) = PausedBefore form taken rest
 
 -- the same, of bytes that the source gave
 abbrev pub Pauses : Form → Option (List ℕ) → Option (List ℕ) → (List (List ℕ) → Standing → Type 0) → Ending → Type 0
-Pauses form left left' W ending = (taken : List ℕ) × (rest : List ℕ) × TakesFrom left left' taken rest × IsPaused form taken rest W ending
+Pauses form left left' W e = (taken : List ℕ) × (rest : List ℕ) × TakesFrom left left' taken rest × IsPaused form taken rest W e
 
 -- a run ended so, of which these bytes were taken and those are left
 abbrev pub EndsSo : Form → ℕ → Standing → (Standing → Standing → Type 0) → List ℕ → List ℕ → Option (List ℕ) → Option (List ℕ) → Status → Type 0
@@ -193,11 +192,11 @@ is_read (Ok (ending.Before status)) = is_read_fault status
 is_read (Err status) = is_read_fault status
 
 abbrev pub is_write : Result Ending Status → Bool
-is_write (Ok ending) = false
+is_write (Ok x) = false
 is_write (Err status) = is_write_fault status
 
 abbrev pub is_keep : Result Ending Status → Bool
-is_keep (Ok ending) = false
+is_keep (Ok x) = false
 is_keep (Err status) = is_keep_fault status
 
 -- a stop of the sink, and one of the keeper
@@ -227,10 +226,10 @@ UnlessNoMemory _ P = P
 
 -- the end of a run, with these lines left
 abbrev pub FinishEnds : Form → (Standing → Standing → Type 0) → ℕ → Standing → List (List ℕ) → EndStop → List ℕ → Type 0
-FinishEnds form L n s lines (end.Lacking m fault) text = Lacking form L n s lines text (stop.BadInput m fault)
-FinishEnds form L n s lines end.Report text = Reported form L n s lines text
-FinishEnds form L n s lines end.Flush text = Finished form L n s lines text
-FinishEnds form L n s lines end.NoMemory text = Reported form L n s lines text ⊎ Answered form L n s lines text
+FinishEnds form L n s lines (ends.Lacking m fault) text = Lacking form L n s lines text (stop.BadInput m fault)
+FinishEnds form L n s lines ends.Report text = Reported form L n s lines text
+FinishEnds form L n s lines ends.Flush text = Finished form L n s lines text
+FinishEnds form L n s lines ends.NoMemory text = Reported form L n s lines text ⊎ Answered form L n s lines text
 
 abbrev pub FinishStops : Form → (Standing → Standing → Type 0) → ℕ → Standing → List (List ℕ) → Option (List ℕ) → Option (List ℕ) → EndStop → Type 0
 FinishStops form L n s lines written written' stop = (text : List ℕ) × Grows written written' text × FinishEnds form L n s lines stop text

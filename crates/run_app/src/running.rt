@@ -81,10 +81,12 @@ fn ending_of(stop: LineStop) -> Result<Ending, Status>
     ensures { result ≡ ending_of stop }
 {
     match stop {
-        LineStop::BadInput(_, _) | LineStop::Long(_) | LineStop::Ratio(_, _) => {
-            Ok(Ending::Before(status_of(stop)))
-        }
-        LineStop::Write | LineStop::Keep | LineStop::NoMemory => Err(status_of(stop)),
+        LineStop::BadInput(n, fault) => Ok(Ending::Before(Status::BadInput(n, fault))),
+        LineStop::Long(n) => Ok(Ending::Before(Status::Limit(n, LimitKind::Line))),
+        LineStop::Ratio(n, over) => Ok(Ending::Before(Status::Limit(n, LimitKind::Ratio(over)))),
+        LineStop::Write => Err(Status::WriteFault),
+        LineStop::Keep => Err(Status::KeepFault),
+        LineStop::NoMemory => Err(Status::NoMemory),
     }
 }
 

@@ -1,4 +1,4 @@
-use Rattle.run_app.proofs.CountLemmas.{begun_at_end, end_keeps, end_reads, end_undone}
+use Rattle.run_app.proofs.CountLemmas.{begun_at_end, end_keeps, end_reads, end_undone, missing_so}
 use Rattle.run_app.proofs.PartLemmas.{done_status, end_status}
 use Rattle.run_app.proofs.finishing.finish.Goals as goal
 
@@ -16,6 +16,12 @@ returns-in-Err-clause-read g c = rw c.status_at_end.ensures (end_reads c.in-Err.
 
 pub returns-in-Err-clause-keep : goal.returns-in-Err-clause-keep
 returns-in-Err-clause-keep g c = rw c.status_at_end.ensures (end_keeps c.in-Err.stop)
+
+pub returns-in-Ok-clause-missing : goal.returns-in-Ok-clause-missing
+returns-in-Ok-clause-missing g c = λ none. let never = c.in-Ok.ensures.missing none in absurd cc
+
+pub returns-in-Err-clause-missing : goal.returns-in-Err-clause-missing
+returns-in-Err-clause-missing g c = λ none. rw c.status_at_end.ensures (missing_so c.in-Err.stop 1 _ (c.in-Err.ensures.missing none))
 
 pub returns-in-Ok-clause-writes : goal.returns-in-Ok-clause-writes
 returns-in-Ok-clause-writes g c = (c.in-Ok.ensures.writes.0, λ e. c.in-Ok.ensures.writes.1)

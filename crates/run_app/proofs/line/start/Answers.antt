@@ -37,11 +37,11 @@ returns-in-Err-commit_first-clause-keeps g c = rw c.not_kept.ensures (not_kept_m
 
 pub returns-in-Err-write_held-clause-stops : goal.returns-in-Err-write_held-clause-stops
 returns-in-Err-write_held-clause-stops g c = λ every b lines end from k.
-    first_unwritten c.args.form every b lines end _ _ _ _ _ from _ _ _ _ k c.requires.short c.requires.none _ c.in-Ok.chain (rw c.deref.ensures.value at c.in-Ok.ensures.ok) _ _ _ c.in-Ok.ensures.settled c.commit_first.ensures.commits _ c.in-Err-write_held.stop c.in-Err-write_held.ensures.err c.in-Err-write_held.ensures.stop _ _
+    first_unwritten c.args.form every b lines end _ _ _ _ _ from _ _ _ _ k c.requires.short c.requires.none _ c.in-Ok.chain (rw c.deref.ensures.value at c.in-Ok.ensures.ok) _ _ _ c.in-Ok.ensures.settled c.in_default.ensures.commits _ c.in-Err-write_held.stop c.in-Err-write_held.ensures.err c.in-Err-write_held.ensures.stop _ _
 
 pub returns-in-Err-write_held-clause-long : goal.returns-in-Err-write_held-clause-long
 returns-in-Err-write_held-clause-long g c = sink_long c.in-Err-write_held.stop _ c.in-Err-write_held.ensures.stop
 
 pub returns-clause-took : goal.returns-clause-took
 returns-clause-took g c = λ every b lines end from k.
-    first_taken c.args.form every b lines end _ _ _ _ _ from _ _ _ _ k c.requires.short c.requires.none _ c.in-Ok.chain (rw c.deref.ensures.value at c.in-Ok.ensures.ok) _ _ _ c.in-Ok.ensures.settled c.commit_first.ensures.commits _ _ _ c.write_held.ensures.ok c.write_held.ensures.none c.write_held.ensures.empty
+    first_taken c.args.form every b lines end _ _ _ _ _ from _ _ _ _ k c.requires.short c.requires.none _ c.in-Ok.chain (rw c.deref.ensures.value at c.in-Ok.ensures.ok) _ _ _ c.in-Ok.ensures.settled c.in_default.ensures.commits _ _ _ c.in_default-write_held.ensures.ok c.in_default-write_held.ensures.none c.in_default-write_held.ensures.empty

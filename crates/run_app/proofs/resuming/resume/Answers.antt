@@ -17,7 +17,7 @@ pub drive-requires : goal.drive-requires
 drive-requires g c =
     let e = c.restore_with_changes.ensures in
     let commits = rw c.deref.ensures.value at c.in-Ok-commit_migration.ensures.commits in
-    record { every = c.requires; kept = (_, resumed_first c.args.form _ _ _ _ _ c.in-Ok.ensures.restored e.same _ _ _ _ e.settled commits) }
+    record { every = c.requires.every; kept = (_, resumed_first c.args.form _ _ _ _ _ c.in-Ok.ensures.restored e.same _ _ _ _ e.settled commits) }
 
 pub returns-in-Ok-commit_migration-clause-ends : goal.returns-in-Ok-commit_migration-clause-ends
 returns-in-Ok-commit_migration-clause-ends g c =
