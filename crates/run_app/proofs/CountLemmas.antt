@@ -128,21 +128,21 @@ lost_read every why (ending.Before s) before now of more h = lost_so every why b
 
 -- ---- by the stop of a part
 
-pub part_writes : {X : Type 0} (why : LineStop) (before now : ℕ) → Moved (is_write_stop {X = X} (Err why)) before now → Moved (is_write_fault (status_of why)) before now
-part_writes (stops.BadInput n fault) before now h = h
-part_writes (stops.Long n) before now h = h
-part_writes (stops.Ratio n over) before now h = h
-part_writes stops.Write before now h = h
-part_writes stops.Keep before now h = h
-part_writes stops.NoMemory before now h = h
+pub part_writes : (X : Type 0) (why : LineStop) (before now : ℕ) → Moved (is_write_stop {X = X} (Err why)) before now → Moved (is_write_fault (status_of why)) before now
+part_writes X (stops.BadInput n fault) before now h = h
+part_writes X (stops.Long n) before now h = h
+part_writes X (stops.Ratio n over) before now h = h
+part_writes X stops.Write before now h = h
+part_writes X stops.Keep before now h = h
+part_writes X stops.NoMemory before now h = h
 
-pub part_keeps : {X : Type 0} (why : LineStop) (before now : ℕ) → Moved (is_keep_stop {X = X} (Err why)) before now → Moved (is_keep_fault (status_of why)) before now
-part_keeps (stops.BadInput n fault) before now h = h
-part_keeps (stops.Long n) before now h = h
-part_keeps (stops.Ratio n over) before now h = h
-part_keeps stops.Write before now h = h
-part_keeps stops.Keep before now h = h
-part_keeps stops.NoMemory before now h = h
+pub part_keeps : (X : Type 0) (why : LineStop) (before now : ℕ) → Moved (is_keep_stop {X = X} (Err why)) before now → Moved (is_keep_fault (status_of why)) before now
+part_keeps X (stops.BadInput n fault) before now h = h
+part_keeps X (stops.Long n) before now h = h
+part_keeps X (stops.Ratio n over) before now h = h
+part_keeps X stops.Write before now h = h
+part_keeps X stops.Keep before now h = h
+part_keeps X stops.NoMemory before now h = h
 
 pub part_reads : (why : LineStop) → is_read_fault (status_of why) ≡ false
 part_reads (stops.BadInput n fault) = refl
@@ -196,38 +196,38 @@ sink_moved (Err stops.Write) count of = refl
 sink_moved (Err stops.Keep) count of = absurd of
 sink_moved (Err stops.NoMemory) count of = refl
 
-pub keeper_moved : {X : Type 0} (why : LineStop) (count : ℕ) → IsOfKeeper why → Moved (is_write_stop {X = X} (Err why)) count count
-keeper_moved (stops.BadInput n fault) count of = refl
-keeper_moved (stops.Long n) count of = refl
-keeper_moved (stops.Ratio n over) count of = refl
-keeper_moved stops.Write count of = absurd of
-keeper_moved stops.Keep count of = refl
-keeper_moved stops.NoMemory count of = refl
+pub keeper_moved : (X : Type 0) (why : LineStop) (count : ℕ) → IsOfKeeper why → Moved (is_write_stop {X = X} (Err why)) count count
+keeper_moved X (stops.BadInput n fault) count of = refl
+keeper_moved X (stops.Long n) count of = refl
+keeper_moved X (stops.Ratio n over) count of = refl
+keeper_moved X stops.Write count of = absurd of
+keeper_moved X stops.Keep count of = refl
+keeper_moved X stops.NoMemory count of = refl
 
 -- bytes that do not come to a line are no fault of the sink or the keeper
-pub extended_writes : {X : Type 0} (why : LineStop) (n : ℕ) (line bytes : List ℕ) (count : ℕ) → NotExtended why n line bytes → Moved (is_write_stop {X = X} (Err why)) count count
-extended_writes (stops.BadInput m fault) n line bytes count h = refl
-extended_writes (stops.Long m) n line bytes count h = refl
-extended_writes (stops.Ratio m over) n line bytes count h = refl
-extended_writes stops.Write n line bytes count h = absurd h
-extended_writes stops.Keep n line bytes count h = refl
-extended_writes stops.NoMemory n line bytes count h = refl
+pub extended_writes : (X : Type 0) (why : LineStop) (n : ℕ) (line bytes : List ℕ) (count : ℕ) → NotExtended why n line bytes → Moved (is_write_stop {X = X} (Err why)) count count
+extended_writes X (stops.BadInput m fault) n line bytes count h = refl
+extended_writes X (stops.Long m) n line bytes count h = refl
+extended_writes X (stops.Ratio m over) n line bytes count h = refl
+extended_writes X stops.Write n line bytes count h = absurd h
+extended_writes X stops.Keep n line bytes count h = refl
+extended_writes X stops.NoMemory n line bytes count h = refl
 
-pub extended_keeps : {X : Type 0} (why : LineStop) (n : ℕ) (line bytes : List ℕ) (count : ℕ) → NotExtended why n line bytes → Moved (is_keep_stop {X = X} (Err why)) count count
-extended_keeps (stops.BadInput m fault) n line bytes count h = refl
-extended_keeps (stops.Long m) n line bytes count h = refl
-extended_keeps (stops.Ratio m over) n line bytes count h = refl
-extended_keeps stops.Write n line bytes count h = refl
-extended_keeps stops.Keep n line bytes count h = absurd h
-extended_keeps stops.NoMemory n line bytes count h = refl
+pub extended_keeps : (X : Type 0) (why : LineStop) (n : ℕ) (line bytes : List ℕ) (count : ℕ) → NotExtended why n line bytes → Moved (is_keep_stop {X = X} (Err why)) count count
+extended_keeps X (stops.BadInput m fault) n line bytes count h = refl
+extended_keeps X (stops.Long m) n line bytes count h = refl
+extended_keeps X (stops.Ratio m over) n line bytes count h = refl
+extended_keeps X stops.Write n line bytes count h = refl
+extended_keeps X stops.Keep n line bytes count h = absurd h
+extended_keeps X stops.NoMemory n line bytes count h = refl
 
 pub all_writes : {X : Type 0} (r : Result X LineStop) (n : ℕ) (line bytes : List ℕ) (count : ℕ) → IfErr r (λ why. NotExtended why n line bytes) → Moved (is_write_stop r) count count
-all_writes (Ok x) n line bytes count h = refl
-all_writes (Err why) n line bytes count h = extended_writes why n line bytes count h
+all_writes {X} (Ok x) n line bytes count h = refl
+all_writes {X} (Err why) n line bytes count h = extended_writes X why n line bytes count h
 
 pub all_keeps : {X : Type 0} (r : Result X LineStop) (n : ℕ) (line bytes : List ℕ) (count : ℕ) → IfErr r (λ why. NotExtended why n line bytes) → Moved (is_keep_stop r) count count
-all_keeps (Ok x) n line bytes count h = refl
-all_keeps (Err why) n line bytes count h = extended_keeps why n line bytes count h
+all_keeps {X} (Ok x) n line bytes count h = refl
+all_keeps {X} (Err why) n line bytes count h = extended_keeps X why n line bytes count h
 
 -- ---- by where no more lines are taken
 
@@ -318,21 +318,21 @@ ending_reads stops.Write = refl
 ending_reads stops.Keep = refl
 ending_reads stops.NoMemory = refl
 
-pub ending_writes : {X : Type 0} (why : LineStop) (before now : ℕ) → Moved (is_write_stop {X = X} (Err why)) before now → Moved (is_write (ending_of why)) before now
-ending_writes (stops.BadInput n fault) before now h = h
-ending_writes (stops.Long n) before now h = h
-ending_writes (stops.Ratio n over) before now h = h
-ending_writes stops.Write before now h = h
-ending_writes stops.Keep before now h = h
-ending_writes stops.NoMemory before now h = h
+pub ending_writes : (X : Type 0) (why : LineStop) (before now : ℕ) → Moved (is_write_stop {X = X} (Err why)) before now → Moved (is_write (ending_of why)) before now
+ending_writes X (stops.BadInput n fault) before now h = h
+ending_writes X (stops.Long n) before now h = h
+ending_writes X (stops.Ratio n over) before now h = h
+ending_writes X stops.Write before now h = h
+ending_writes X stops.Keep before now h = h
+ending_writes X stops.NoMemory before now h = h
 
-pub ending_keeps : {X : Type 0} (why : LineStop) (before now : ℕ) → Moved (is_keep_stop {X = X} (Err why)) before now → Moved (is_keep (ending_of why)) before now
-ending_keeps (stops.BadInput n fault) before now h = h
-ending_keeps (stops.Long n) before now h = h
-ending_keeps (stops.Ratio n over) before now h = h
-ending_keeps stops.Write before now h = h
-ending_keeps stops.Keep before now h = h
-ending_keeps stops.NoMemory before now h = h
+pub ending_keeps : (X : Type 0) (why : LineStop) (before now : ℕ) → Moved (is_keep_stop {X = X} (Err why)) before now → Moved (is_keep (ending_of why)) before now
+ending_keeps X (stops.BadInput n fault) before now h = h
+ending_keeps X (stops.Long n) before now h = h
+ending_keeps X (stops.Ratio n over) before now h = h
+ending_keeps X stops.Write before now h = h
+ending_keeps X stops.Keep before now h = h
+ending_keeps X stops.NoMemory before now h = h
 
 -- ---- by the stop of the end
 

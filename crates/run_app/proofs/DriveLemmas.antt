@@ -208,7 +208,7 @@ module _ (form : Form) (every : ℕ) (b : Began) (taken : List ℕ) (end : Stand
 
 -- some lines were answered
 pub pause_first : (form : Form) (left left' : Option (List ℕ)) (W : List (List ℕ) → Standing → Type 0) (e : Ending) → Pauses form left left' W e → (lines : List (List ℕ)) × (end : Standing) × W lines end
-pause_first form left left' W ending.End p = (lines_of p.0, p.5, p.6)
+pause_first form left left' W ending.End p = (lines_of p.0, p.3.2, p.3.3)
 pause_first form left left' W (ending.Before status) p = (p.3.lines, p.3.end, p.3.waits)
 
 -- or it was lost
@@ -216,7 +216,7 @@ module _ (form : Form) (every : ℕ) (first : Standing) (L : Standing → Standi
   pub pause_lost : (e : Ending) → Pauses form left left' W e → RunEnds form every first L left left' from w (status_of why)
   pause_lost ending.End p =
       ends_from form every first L left left' from w p.0 p.1 (status_of why) p.2
-      (loses_ends form every first L p.0 p.1 (lines_of p.0) from w why p.4 (inr (p.3, refl)) (lost (lines_of p.0) p.5 p.6))
+      (loses_ends form every first L p.0 p.1 (lines_of p.0) from w why p.3.1 (inr (p.3.0, refl)) (lost (lines_of p.0) p.3.2 p.3.3))
   pause_lost (ending.Before status) p =
       ends_from form every first L left left' from w p.0 p.1 (status_of why) p.2
       (loses_ends form every first L p.0 p.1 (p.3.lines ++ p.3.more) from w why p.3.short p.3.ended (loses_more form every first L p.3.lines p.3.more from w why (lost p.3.lines p.3.end p.3.waits)))

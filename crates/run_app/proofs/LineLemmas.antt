@@ -82,26 +82,26 @@ not_kept_is keep.NoMemory = tt
 abbrev unmade : KeepFault → Result ⊤ KeepFault
 unmade f = Err f
 
-pub not_kept_moved : {X : Type 0} (f : KeepFault) (before now : ℕ) → (IsErrOf (unmade f) keep.Failed → Rose before now) → UnlessLost (unmade f) (now ≡ before) → Moved (is_keep_stop {X = X} (Err (not_kept f))) before now
-not_kept_moved keep.Failed before now cause quiet = cause refl
-not_kept_moved keep.NoMemory before now cause quiet = quiet
+pub not_kept_moved : (X : Type 0) (f : KeepFault) (before now : ℕ) → (IsErrOf (unmade f) keep.Failed → Rose before now) → UnlessLost (unmade f) (now ≡ before) → Moved (is_keep_stop {X = X} (Err (not_kept f))) before now
+not_kept_moved X keep.Failed before now cause quiet = cause refl
+not_kept_moved X keep.NoMemory before now cause quiet = quiet
 
 -- a fault of the input is none of the keeper or the sink
-pub fault_moved : {X : Type 0} (why : LineStop) (due : Result Answer LineStop) (count : ℕ) → IsFault why due → Moved (is_keep_stop {X = X} (Err why)) count count
-fault_moved (stop.BadInput m fault) due count of = refl
-fault_moved (stop.Long m) due count of = absurd of
-fault_moved (stop.Ratio m over) due count of = refl
-fault_moved stop.Write due count of = absurd of
-fault_moved stop.Keep due count of = absurd of
-fault_moved stop.NoMemory due count of = refl
+pub fault_moved : (X : Type 0) (why : LineStop) (due : Result Answer LineStop) (count : ℕ) → IsFault why due → Moved (is_keep_stop {X = X} (Err why)) count count
+fault_moved X (stop.BadInput m fault) due count of = refl
+fault_moved X (stop.Long m) due count of = absurd of
+fault_moved X (stop.Ratio m over) due count of = refl
+fault_moved X stop.Write due count of = absurd of
+fault_moved X stop.Keep due count of = absurd of
+fault_moved X stop.NoMemory due count of = refl
 
-pub fault_unwritten : {X : Type 0} (why : LineStop) (due : Result Answer LineStop) (count : ℕ) → IsFault why due → Moved (is_write_stop {X = X} (Err why)) count count
-fault_unwritten (stop.BadInput m fault) due count of = refl
-fault_unwritten (stop.Long m) due count of = absurd of
-fault_unwritten (stop.Ratio m over) due count of = refl
-fault_unwritten stop.Write due count of = absurd of
-fault_unwritten stop.Keep due count of = absurd of
-fault_unwritten stop.NoMemory due count of = refl
+pub fault_unwritten : (X : Type 0) (why : LineStop) (due : Result Answer LineStop) (count : ℕ) → IsFault why due → Moved (is_write_stop {X = X} (Err why)) count count
+fault_unwritten X (stop.BadInput m fault) due count of = refl
+fault_unwritten X (stop.Long m) due count of = absurd of
+fault_unwritten X (stop.Ratio m over) due count of = refl
+fault_unwritten X stop.Write due count of = absurd of
+fault_unwritten X stop.Keep due count of = absurd of
+fault_unwritten X stop.NoMemory due count of = refl
 
 -- ---- no chain is there yet
 

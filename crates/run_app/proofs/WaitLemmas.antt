@@ -218,8 +218,8 @@ module _ (form : Form) (every : ℕ) (b : Began) (lines : List (List ℕ)) (end 
   module _ (chain' : Option Chained) (told' : Option (List Pair)) (honest' : Type 0) (leaves' : List Pair → Type 0) (k : Stands form (every + 1) b lines end number chain waiting held from w told honest leaves) (kept : Keeping b chain' told' honest' leaves' end end) where
     -- and written
     pub stands_released : (r : Result ⊤ LineStop) (w' : Option (List ℕ)) (waiting' : ℕ) (held' : List ℕ) → OnOk r (IfSome w (λ bytes. w' ≡ Some (bytes ++ held))) → OnOk r (held' ≡ []) → OnOk r (waiting' ≡ 0) → OnOk r (Stands form 1 b lines end number chain' waiting' held' from w' told' honest' leaves')
-    stands_released (Ok x) w' waiting' held' wrote empty zero = record { settled = end; number_is = k.number_is; waits = released form every b.first lines k.settled end waiting held from w k.waits w' wrote waiting' zero held' empty; kept = kept }
-    stands_released (Err why) w' waiting' held' wrote empty zero = tt
+    stands_released (Ok x) w' waiting' held' told_so empty zero = record { settled = end; number_is = k.number_is; waits = released form every b.first lines k.settled end waiting held from w k.waits w' told_so waiting' zero held' empty; kept = kept }
+    stands_released (Err why) w' waiting' held' told_so empty zero = tt
 
     -- or not
     pub stands_unwritten : (r : Result ⊤ LineStop) (w' : Option (List ℕ)) → 0 < waiting → OnErr r (AddsPart w w' held) → IfErr r IsOfSink → IfErr r (Loses form every b.first (LeftIn b told' honest' leaves') lines from w')

@@ -1,5 +1,5 @@
 -- What a stop may leave behind a run.
-use Rattle.std.specs.Prelude.{◌≡◌, ◌⊎◌, ℕ, ◌+◌, ◌≤◌, List, [], ◌++◌, length, Option, Some, None, IsSome}
+use Rattle.std.specs.Prelude.{◌≡◌, ◌⊎◌, ℕ, ◌+◌, ◌≤◌, List, [], ◌++◌, length, Option, Some, None, Ok, IsSome}
 use Rattle.base_bech32.specs.declared.form.Form.{Form}
 use Rattle.run_generated.specs.Writing.{Grows, IsFront}
 use Rattle.base_io.specs.Rows.{Pair}

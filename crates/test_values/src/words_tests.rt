@@ -55,6 +55,17 @@ fn kept(form: Form, mode: Mode) -> Result<Command, WordsFault> {
     })
 }
 
+/// A command that commits once for so many blocks.
+fn grouped(form: Form, every: u64, mode: Mode) -> Result<Command, WordsFault> {
+    Ok(Command {
+        form,
+        keep: false,
+        every,
+        past: None,
+        mode,
+    })
+}
+
 /// A command that asks of a past height.
 fn past(form: Form, height: u64, what: Query) -> Result<Command, WordsFault> {
     Ok(Command {
@@ -226,5 +237,17 @@ fn other_words_are_no_command(rt: HostRuntime) -> Result<(), Fail> {
         assert!(rt; read(alloc, line) == Err(WordsFault::Usage), "{line}");
     }
     assert!(rt; read_words(alloc, &[]) == Err(WordsFault::Usage));
+    Ok(())
+}
+
+#[test]
+fn blocks_may_be_committed_together(rt: HostRuntime) -> Result<(), Fail> {
+    let alloc: Global = rt.alloc();
+    assert!(rt; read(alloc, "every 1 replay") == hex(Mode::Replay));
+    assert!(rt; read(alloc, "every 3 replay") == grouped(Form::Hex, 3, Mode::Replay));
+    assert!(rt; read(alloc, "bech32 every 1000000 resume") == grouped(Form::Bech32, 1_000_000, Mode::Resume));
+    for line in ["every 0 replay", "every 1000001 replay", "every 01 replay", "every 3 keep replay", "keep every 3 replay", "every 3 tally"] {
+        assert!(rt; read(alloc, line) == Err(WordsFault::Usage));
+    }
     Ok(())
 }

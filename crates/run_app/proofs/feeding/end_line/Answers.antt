@@ -23,7 +23,7 @@ returns-clause-fed g c = λ b taken end from k.
     (t.0, line_fed c.args.form c.args.every b taken t.0 _ _ _ _ from _ _ _ _ _ _ _ (c.in_default.ensures.line ∙ ap (λ l. l ++ c.args.bytes.now) k.line_is) c.requires.before c.clear.ensures.items t.1)
 
 pub returns-in-Err-clause-writes : goal.returns-in-Err-clause-writes
-returns-in-Err-clause-writes g c = extended_writes c.in-Err.stop _ _ _ _ c.in-Err.ensures.err
+returns-in-Err-clause-writes g c = extended_writes (Unit {0}) c.in-Err.stop _ _ _ _ c.in-Err.ensures.err
 
 pub returns-in-Err-clause-keeps : goal.returns-in-Err-clause-keeps
-returns-in-Err-clause-keeps g c = extended_keeps c.in-Err.stop _ _ _ _ c.in-Err.ensures.err
+returns-in-Err-clause-keeps g c = extended_keeps (Unit {0}) c.in-Err.stop _ _ _ _ c.in-Err.ensures.err

@@ -10,10 +10,10 @@ pub returns-in-Err-clause-long : goal.returns-in-Err-clause-long
 returns-in-Err-clause-long g c = fault_long c.in-Err.stop _ _ c.in-Err.ensures.err
 
 pub returns-in-Err-clause-writes : goal.returns-in-Err-clause-writes
-returns-in-Err-clause-writes g c = fault_unwritten c.in-Err.stop _ _ c.in-Err.ensures.err
+returns-in-Err-clause-writes g c = fault_unwritten (Unit {0}) c.in-Err.stop _ _ c.in-Err.ensures.err
 
 pub returns-in-Err-clause-keeps : goal.returns-in-Err-clause-keeps
-returns-in-Err-clause-keeps g c = fault_moved c.in-Err.stop _ _ c.in-Err.ensures.err
+returns-in-Err-clause-keeps g c = fault_moved (Unit {0}) c.in-Err.stop _ _ c.in-Err.ensures.err
 
 pub commit_first-requires-clause-holds : goal.commit_first-requires-clause-holds
 commit_first-requires-clause-holds g c =
@@ -33,7 +33,7 @@ pub returns-in-Err-commit_first-clause-long : goal.returns-in-Err-commit_first-c
 returns-in-Err-commit_first-clause-long g c = rw c.not_kept.ensures (keeper_long _ _ (not_kept_is c.in-Err-commit_first.fault))
 
 pub returns-in-Err-commit_first-clause-keeps : goal.returns-in-Err-commit_first-clause-keeps
-returns-in-Err-commit_first-clause-keeps g c = rw c.not_kept.ensures (not_kept_moved c.in-Err-commit_first.fault _ _ c.in-Err-commit_first.ensures.cause c.in-Err-commit_first.ensures.quiet)
+returns-in-Err-commit_first-clause-keeps g c = rw c.not_kept.ensures (not_kept_moved (Unit {0}) c.in-Err-commit_first.fault _ _ c.in-Err-commit_first.ensures.cause c.in-Err-commit_first.ensures.quiet)
 
 pub returns-in-Err-write_held-clause-stops : goal.returns-in-Err-write_held-clause-stops
 returns-in-Err-write_held-clause-stops g c = λ every b lines end from k.

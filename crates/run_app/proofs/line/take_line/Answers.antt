@@ -44,13 +44,13 @@ pub returns-in-Err-clause-writes : goal.returns-in-Err-clause-writes
 returns-in-Err-clause-writes g c =
     let r = c.requires.stands in
     let p = stood c.args.form c.args.every r.0 r.1 r.2 _ _ _ _ _ r.3 _ _ _ _ r.4 c.if-line-gt-LONGEST.false c.in-Some.chain c.in-Some.is in
-    fault_unwritten c.in-Err.stop _ _ (c.in-Err.ensures.err p.0 p.2)
+    fault_unwritten (Unit {0}) c.in-Err.stop _ _ (c.in-Err.ensures.err p.0 p.2)
 
 pub returns-in-Err-clause-keeps : goal.returns-in-Err-clause-keeps
 returns-in-Err-clause-keeps g c =
     let r = c.requires.stands in
     let p = stood c.args.form c.args.every r.0 r.1 r.2 _ _ _ _ _ r.3 _ _ _ _ r.4 c.if-line-gt-LONGEST.false c.in-Some.chain c.in-Some.is in
-    fault_moved c.in-Err.stop _ _ (c.in-Err.ensures.err p.0 p.2)
+    fault_moved (Unit {0}) c.in-Err.stop _ _ (c.in-Err.ensures.err p.0 p.2)
 
 pub settle-requires-clause-stands : goal.settle-requires-clause-stands
 settle-requires-clause-stands g c =

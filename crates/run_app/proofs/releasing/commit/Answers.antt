@@ -20,7 +20,7 @@ pub returns-in-Err-clause-stop : goal.returns-in-Err-clause-stop
 returns-in-Err-clause-stop g c = rw c.not_kept.ensures (not_kept_is c.in-Err.fault)
 
 pub returns-in-Err-clause-keeps : goal.returns-in-Err-clause-keeps
-returns-in-Err-clause-keeps g c = rw c.not_kept.ensures (not_kept_moved c.in-Err.fault _ _ c.in-Err.ensures.cause c.in-Err.ensures.quiet)
+returns-in-Err-clause-keeps g c = rw c.not_kept.ensures (not_kept_moved (Unit {0}) c.in-Err.fault _ _ c.in-Err.ensures.cause c.in-Err.ensures.quiet)
 
 pub returns-in-None-clause-ok : goal.returns-in-None-clause-ok
 returns-in-None-clause-ok g c = λ b s t k. none_kept b _ _ _ _ s t c.in-None.is k

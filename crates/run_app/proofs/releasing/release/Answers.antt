@@ -31,7 +31,7 @@ pub returns-in-Err-clause-some : goal.returns-in-Err-clause-some
 returns-in-Err-clause-some g c = some_wait _ c.if-progress-eq0.false
 
 pub returns-in-Err-clause-writes : goal.returns-in-Err-clause-writes
-returns-in-Err-clause-writes g c = keeper_moved c.in-Err.stop _ c.in-Err.ensures.stop
+returns-in-Err-clause-writes g c = keeper_moved (Unit {0}) c.in-Err.stop _ c.in-Err.ensures.stop
 
 pub returns-clause-ok : goal.returns-clause-ok
 returns-clause-ok g c = λ form every b lines end from k.

@@ -70,10 +70,10 @@ pub returns-in-Err-clause-reads : goal.returns-in-Err-clause-reads
 returns-in-Err-clause-reads g c = rw (c.status_of.ensures, part_reads c.in-Err.stop) refl
 
 pub returns-in-Err-clause-writes : goal.returns-in-Err-clause-writes
-returns-in-Err-clause-writes g c = rw c.status_of.ensures (part_writes c.in-Err.stop _ _ c.in-Err.ensures.writes)
+returns-in-Err-clause-writes g c = rw c.status_of.ensures (part_writes (Unit {0}) c.in-Err.stop _ _ c.in-Err.ensures.writes)
 
 pub returns-in-Err-clause-keeps : goal.returns-in-Err-clause-keeps
-returns-in-Err-clause-keeps g c = rw c.status_of.ensures (part_keeps c.in-Err.stop _ _ c.in-Err.ensures.keeps)
+returns-in-Err-clause-keeps g c = rw c.status_of.ensures (part_keeps (Unit {0}) c.in-Err.stop _ _ c.in-Err.ensures.keeps)
 
 pub returns-in-Ok-eq0-clause-reads : goal.returns-in-Ok-eq0-clause-reads
 returns-in-Ok-eq0-clause-reads g c = rw c.last_line.ensures.read c.in-Ok-eq0.ensures.quiet

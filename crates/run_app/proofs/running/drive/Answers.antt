@@ -30,9 +30,9 @@ returns-in-Before-clause-ends g c = λ b k.
 pub returns-in-End-clause-ends : goal.returns-in-End-clause-ends
 returns-in-End-clause-ends g c = λ b k.
     let p = rw c.in-End.is at (c.in-Ok.ensures.ends b k) in
-    let s = c.in_default.ensures.ok c.args.form c.args.every b _ p.5 _ (stands_more c.args.form c.args.every b _ p.5 _ _ _ _ _ _ _ _ _ p.6) in
-    let a = all_written c.args.form 1 b _ p.5 _ _ _ _ _ _ _ _ _ s in
-    ends_from c.args.form c.args.every b.first _ _ _ _ _ p.0 _ c.finish.result (rw p.3 at p.2) (finish_ends c.args.form c.args.every _ b.first p.5 p.0 a.0 p.4 a.2 a.3 _ _ _ c.finish.result a.1 (c.finish.ensures.status p.5 s.kept.stands))
+    let s = c.in_default.ensures.ok c.args.form c.args.every b _ p.3.2 _ (stands_more c.args.form c.args.every b _ p.3.2 _ _ _ _ _ _ _ _ _ p.3.3) in
+    let a = all_written c.args.form 1 b _ p.3.2 _ _ _ _ _ _ _ _ _ s in
+    ends_from c.args.form c.args.every b.first _ _ _ _ _ p.0 _ c.finish.result (rw p.3.0 at p.2) (finish_ends c.args.form c.args.every _ b.first p.3.2 p.0 a.0 p.3.1 a.2 a.3 _ _ _ c.finish.result a.1 (c.finish.ensures.status p.3.2 s.kept.stands))
 
 pub returns-in-Err-clause-begun : goal.returns-in-Err-clause-begun
 returns-in-Err-clause-begun g c = stopped_begun c.in-Err.status c.in-Err.ensures.stopped
@@ -66,7 +66,7 @@ returns-in-Err-clause-writes g c = (c.in-Err.ensures.writes, λ e. absurd (stopp
 
 pub returns-in-Err-release-clause-writes : goal.returns-in-Err-release-clause-writes
 returns-in-Err-release-clause-writes g c =
-    rw (c.status_of.ensures, ← c.in-Ok.ensures.writes) (part_writes c.in-Err-release.stop _ _ c.in-Err-release.ensures.writes, λ e. absurd (part_undone c.in-Err-release.stop e))
+    rw (c.status_of.ensures, ← c.in-Ok.ensures.writes) (part_writes (Unit {0}) c.in-Err-release.stop _ _ c.in-Err-release.ensures.writes, λ e. absurd (part_undone c.in-Err-release.stop e))
 
 pub returns-in-Before-clause-writes : goal.returns-in-Before-clause-writes
 returns-in-Before-clause-writes g c =
@@ -77,7 +77,7 @@ pub returns-in-End-clause-writes : goal.returns-in-End-clause-writes
 returns-in-End-clause-writes g c = rw (← c.in-Ok.ensures.writes, ← c.in_default.ensures.writes) c.finish.ensures.writes
 
 pub returns-in-Err-release-clause-keeps : goal.returns-in-Err-release-clause-keeps
-returns-in-Err-release-clause-keeps g c = rw (c.status_of.ensures, ← c.in-Ok.ensures.keeps) (part_keeps c.in-Err-release.stop _ _ c.in-Err-release.ensures.keeps)
+returns-in-Err-release-clause-keeps g c = rw (c.status_of.ensures, ← c.in-Ok.ensures.keeps) (part_keeps (Unit {0}) c.in-Err-release.stop _ _ c.in-Err-release.ensures.keeps)
 
 pub returns-in-Before-clause-keeps : goal.returns-in-Before-clause-keeps
 returns-in-Before-clause-keeps g c = rw (paused_keeps c.in-Before.status (rw c.in-Before.is at c.in-Ok.ensures.stopped)) (c.in_default.ensures.keeps ∙ c.in-Ok.ensures.keeps)

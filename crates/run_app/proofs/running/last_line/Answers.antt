@@ -34,7 +34,7 @@ pub returns-in-Err-clause-read : goal.returns-in-Err-clause-read
 returns-in-Err-clause-read g c = rw c.ending_of.ensures (ending_reads c.in-Err.stop)
 
 pub returns-in-Err-clause-writes : goal.returns-in-Err-clause-writes
-returns-in-Err-clause-writes g c = rw c.ending_of.ensures (ending_writes c.in-Err.stop _ _ c.in-Err.ensures.writes)
+returns-in-Err-clause-writes g c = rw c.ending_of.ensures (ending_writes (Unit {0}) c.in-Err.stop _ _ c.in-Err.ensures.writes)
 
 pub returns-in-Err-clause-keeps : goal.returns-in-Err-clause-keeps
-returns-in-Err-clause-keeps g c = rw c.ending_of.ensures (ending_keeps c.in-Err.stop _ _ c.in-Err.ensures.keeps)
+returns-in-Err-clause-keeps g c = rw c.ending_of.ensures (ending_keeps (Unit {0}) c.in-Err.stop _ _ c.in-Err.ensures.keeps)

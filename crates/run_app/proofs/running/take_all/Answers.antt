@@ -102,10 +102,10 @@ pub returns-in-Err-feed-clause-reads : goal.returns-in-Err-feed-clause-reads
 returns-in-Err-feed-clause-reads g c = rw (c.ending_of.ensures, ending_reads c.in-Err-feed.stop) (c.in-Ok.ensures.quiet ∙ c.loop-taken.invariant.read_quiet)
 
 pub returns-in-Err-feed-clause-writes : goal.returns-in-Err-feed-clause-writes
-returns-in-Err-feed-clause-writes g c = rw (c.ending_of.ensures, ← c.loop-taken.invariant.write_quiet) (ending_writes c.in-Err-feed.stop _ _ c.in-Err-feed.ensures.writes)
+returns-in-Err-feed-clause-writes g c = rw (c.ending_of.ensures, ← c.loop-taken.invariant.write_quiet) (ending_writes (Unit {0}) c.in-Err-feed.stop _ _ c.in-Err-feed.ensures.writes)
 
 pub returns-in-Err-feed-clause-keeps : goal.returns-in-Err-feed-clause-keeps
-returns-in-Err-feed-clause-keeps g c = rw (c.ending_of.ensures, ← c.loop-taken.invariant.keep_quiet) (ending_keeps c.in-Err-feed.stop _ _ c.in-Err-feed.ensures.keeps)
+returns-in-Err-feed-clause-keeps g c = rw (c.ending_of.ensures, ← c.loop-taken.invariant.keep_quiet) (ending_keeps (Unit {0}) c.in-Err-feed.stop _ _ c.in-Err-feed.ensures.keeps)
 
 pub returns-clause-reads : goal.returns-clause-reads
 returns-clause-reads g c = rw (← c.loop-taken.invariant.read_quiet) c.at_limit.ensures.reads
