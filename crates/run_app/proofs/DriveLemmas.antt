@@ -212,14 +212,14 @@ pause_first form left left' W ending.End p = (lines_of p.0, p.3.2, p.3.3)
 pause_first form left left' W (ending.Before status) p = (p.3.lines, p.3.end, p.3.waits)
 
 -- or it was lost
-module _ (form : Form) (every : ℕ) (first : Standing) (L : Standing → Standing → Type 0) (W : List (List ℕ) → Standing → Type 0) (left left' from w : Option (List ℕ)) (why : LineStop) (lost : (lines : List (List ℕ)) (end : Standing) → W lines end → Loses form every first L lines from w why) where
-  pub pause_lost : (e : Ending) → Pauses form left left' W e → RunEnds form every first L left left' from w (status_of why)
-  pause_lost ending.End p =
-      ends_from form every first L left left' from w p.0 p.1 (status_of why) p.2
-      (loses_ends form every first L p.0 p.1 (lines_of p.0) from w why p.3.1 (inr (p.3.0, refl)) (lost (lines_of p.0) p.3.2 p.3.3))
-  pause_lost (ending.Before status) p =
-      ends_from form every first L left left' from w p.0 p.1 (status_of why) p.2
-      (loses_ends form every first L p.0 p.1 (p.3.lines ++ p.3.more) from w why p.3.short p.3.ended (loses_more form every first L p.3.lines p.3.more from w why (lost p.3.lines p.3.end p.3.waits)))
+pub pause_lost : (form : Form) (every : ℕ) (first : Standing) (L : Standing → Standing → Type 0) (W : List (List ℕ) → Standing → Type 0) (left left' from w : Option (List ℕ)) (why : LineStop) (e : Ending) → Pauses form left left' W e → ((lines : List (List ℕ)) (end : Standing) → W lines end → Loses form every first L lines from w why)
+    → RunEnds form every first L left left' from w (status_of why)
+pause_lost form every first L W left left' from w why ending.End p lost =
+    ends_from form every first L left left' from w p.0 p.1 (status_of why) p.2
+    (loses_ends form every first L p.0 p.1 (lines_of p.0) from w why p.3.1 (inr (p.3.0, refl)) (lost (lines_of p.0) p.3.2 p.3.3))
+pause_lost form every first L W left left' from w why (ending.Before status) p lost =
+    ends_from form every first L left left' from w p.0 p.1 (status_of why) p.2
+    (loses_ends form every first L p.0 p.1 (p.3.lines ++ p.3.more) from w why p.3.short p.3.ended (loses_more form every first L p.3.lines p.3.more from w why (lost p.3.lines p.3.end p.3.waits)))
 
 -- the lines before a fault were written
 module _ (form : Form) (every : ℕ) (first : Standing) (L : Standing → Standing → Type 0) (W : List (List ℕ) → Standing → Type 0) (taken rest text : List ℕ) where

@@ -42,8 +42,8 @@ blocks_rise form n line (line' ∷ lines) p sound text end q good at =
     let first : HasRisen p b.done.state = block_rises form n line p sound good.0.text good.0.standing b.done.state w.is b.standing_is in
     let next : IsSound b.done.state = step_sound b.block p b.done sound (block_has_coins form line b.block b.line_is) room b.done_is in
     let rest : AreAnswered form (n + 1) (Some b.done.state) (line' ∷ lines) good.1 end = rw b.standing_is at good.4 in
-    let then : HasRisen b.done.state q = blocks_rise form (n + 1) line' lines b.done.state next good.1 end q rest at in
-    omega (arith, first, then)
+    let second : HasRisen b.done.state q = blocks_rise form (n + 1) line' lines b.done.state next good.1 end q rest at in
+    omega (arith, first, second)
 
 -- the same of where lines led that wait
 pub lines_grow : (form : Form) (n : ℕ) (s t : Standing) (lines : List (List ℕ)) (text : List ℕ) → 0 < length lines → ((p : State) → s ≡ Some p → IsSound p) → AreAnswered form n s lines text t → HasGrown s t

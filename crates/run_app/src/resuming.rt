@@ -64,7 +64,15 @@ pub(crate) fn resume<S: Source, K: Sink, D: Keeper>(
         Err(fault) => return status_of_restore(fault),
     };
     match commit_migration(keeper, &restored.changes) {
-        Ok(()) => drive(form, alloc, every, source, sink, keeper, Some(restored.chain)),
+        Ok(()) => drive(
+            form,
+            alloc,
+            every,
+            source,
+            sink,
+            keeper,
+            Some(restored.chain),
+        ),
         Err(KeepFault::Failed) => Status::KeepFault,
         Err(KeepFault::NoMemory) => Status::NoMemory,
     }

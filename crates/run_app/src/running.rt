@@ -234,7 +234,9 @@ fn take_all<S: Source, K: Sink, D: Keeper>(
             Ok(0) => return last_line(form, alloc, every, scratch, sink, keeper, progress),
             Ok(n) => {
                 let bytes = &piece[..n];
-                if let Err(stop) = feed(form, alloc, every, scratch, sink, keeper, progress, bytes) {
+                if let Err(stop) = feed(
+                    form, alloc, every, scratch, sink, keeper, progress, bytes,
+                ) {
                     return ending_of(stop);
                 }
                 taken += n as u64;

@@ -245,8 +245,17 @@ fn blocks_may_be_committed_together(rt: HostRuntime) -> Result<(), Fail> {
     let alloc: Global = rt.alloc();
     assert!(rt; read(alloc, "every 1 replay") == hex(Mode::Replay));
     assert!(rt; read(alloc, "every 3 replay") == grouped(Form::Hex, 3, Mode::Replay));
-    assert!(rt; read(alloc, "bech32 every 1000000 resume") == grouped(Form::Bech32, 1_000_000, Mode::Resume));
-    for line in ["every 0 replay", "every 1000001 replay", "every 01 replay", "every 3 keep replay", "keep every 3 replay", "every 3 tally"] {
+    assert!(rt;
+        read(alloc, "bech32 every 1000000 resume") == grouped(Form::Bech32, 1_000_000, Mode::Resume)
+    );
+    for line in [
+        "every 0 replay",
+        "every 1000001 replay",
+        "every 01 replay",
+        "every 3 keep replay",
+        "keep every 3 replay",
+        "every 3 tally",
+    ] {
         assert!(rt; read(alloc, line) == Err(WordsFault::Usage));
     }
     Ok(())

@@ -37,10 +37,14 @@ pub loop-end-preserved : goal.loop-end-preserved
 loop-end-preserved g c =
     let a = c.loop-end.invariant.at in
     record {
-      at = (a.0 ++ (take c.in-Some.end c.loop-end.rest.now ++ 10 ∷ []), rw c.after-rest.ensures (taken_on _ a.0 _ c.in-Some.end a.1 c.in-Some.ensures.end), λ b taken end from k.
-          let f = a.2 b taken end from k in
-          let t = c.in_default-end_line.ensures.fed b (taken ++ a.0) f.0 from f.1 in
-          (t.0, rw (append_assoc taken a.0 (take c.in-Some.end c.loop-end.rest.now ++ 10 ∷ [])) at t.1));
+      at = (
+        a.0 ++ (take c.in-Some.end c.loop-end.rest.now ++ 10 ∷ []),
+        rw c.after-rest.ensures (taken_on _ a.0 _ c.in-Some.end a.1 c.in-Some.ensures.end),
+        λ b taken end from k.
+            let f = a.2 b taken end from k in
+            let t = c.in_default-end_line.ensures.fed b (taken ++ a.0) f.0 from f.1 in
+            (t.0, rw (append_assoc taken a.0 (take c.in-Some.end c.loop-end.rest.now ++ 10 ∷ [])) at t.1),
+      );
       write_quiet = c.in_default-end_line.ensures.writes ∙ c.loop-end.invariant.write_quiet;
       keep_quiet = c.in_default-end_line.ensures.keeps ∙ c.loop-end.invariant.keep_quiet;
       honest = λ h. c.loop-end.invariant.honest (c.end_line.ensures.honest h);

@@ -1,4 +1,5 @@
 use Rattle.std.proofs.Common.{inl, inr, refl, ap, Err}
+use Rattle.run_app.specs.Resumes.{status_of_restore}
 use Rattle.run_app.proofs.{CountLemmas.quiet_read, DriveLemmas.begun_busy, PartLemmas.rose_later, ModeLemmas.nothing_done}
 use Rattle.run_app.proofs.ResumeLemmas.{all_taken, each_changes, leads_first, never_none, no_rows_found, not_brought, not_resumed, resumed_first, unresumed_busy, unresumed_keeps, unresumed_unread, unresumed_writes, went_on}
 use Rattle.run_app.proofs.resuming.resume.Goals as goal
@@ -48,7 +49,7 @@ pub returns-in-Err-clause-busy : goal.returns-in-Err-clause-busy
 returns-in-Err-clause-busy g c = rw c.status_of_restore.ensures (unresumed_busy c.in-Err.fault)
 
 pub returns-in-Err-clause-reads : goal.returns-in-Err-clause-reads
-returns-in-Err-clause-reads g c = rw c.status_of_restore.ensures (quiet_read c.args.every _ _ _ (unresumed_unread c.in-Err.fault) refl)
+returns-in-Err-clause-reads g c = rw c.status_of_restore.ensures (quiet_read c.args.every (status_of_restore c.in-Err.fault) _ _ (unresumed_unread c.in-Err.fault) refl)
 
 pub returns-in-Err-clause-writes : goal.returns-in-Err-clause-writes
 returns-in-Err-clause-writes g c = rw c.status_of_restore.ensures (unresumed_writes c.in-Err.fault _ _)

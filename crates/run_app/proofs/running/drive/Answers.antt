@@ -20,7 +20,7 @@ release-requires g c =
 
 pub returns-in-Err-release-clause-ends : goal.returns-in-Err-release-clause-ends
 returns-in-Err-release-clause-ends g c = λ b k.
-    rw c.status_of.ensures (pause_lost c.args.form c.args.every b.first _ _ _ _ _ _ c.in-Err-release.stop (λ lines end s. c.in-Err-release.ensures.stops c.args.form c.args.every b lines end _ (stands_more c.args.form c.args.every b lines end _ _ _ _ _ _ _ _ _ s)) c.in-Ok.ending (c.in-Ok.ensures.ends b k))
+    rw c.status_of.ensures (pause_lost c.args.form c.args.every b.first _ _ _ _ _ _ c.in-Err-release.stop c.in-Ok.ending (c.in-Ok.ensures.ends b k) (λ lines end s. c.in-Err-release.ensures.stops c.args.form c.args.every b lines end _ (stands_more c.args.form c.args.every b lines end _ _ _ _ _ _ _ _ _ s)))
 
 pub returns-in-Before-clause-ends : goal.returns-in-Before-clause-ends
 returns-in-Before-clause-ends g c = λ b k.

@@ -1,4 +1,4 @@
-use Rattle.std.proofs.Common.{◌≡◌, ◌<◌, ◌≤◌, inr, length, refl, rules}
+use Rattle.std.proofs.Common.{◌≡◌, ◌<◌, ◌≤◌, inr, length, refl, rules, sym}
 use Rattle.run_app.proofs.CountLemmas.{ending_keeps, ending_reads, ending_stopped, ending_writes}
 use Rattle.run_app.proofs.DriveLemmas.{last_stops, stop_paused, with_last, without_last}
 use Rattle.run_app.proofs.running.last_line.Goals as goal

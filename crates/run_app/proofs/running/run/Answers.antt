@@ -1,5 +1,6 @@
 use Rattle.std.proofs.Common.{map, string_bytes}
-use Rattle.run_app.{specs.Commands.way_of, proofs.ModeLemmas.fit_command}
+use Rattle.run_words.specs.Words.{command_of}
+use Rattle.run_app.{specs.{Commands.way_of, Counts.every_of}, proofs.ModeLemmas.fit_command}
 use Rattle.run_app.proofs.CommandLemmas.{complete_unasked, ends_unasked, is_of_command, is_of_no_command, kept_unasked, read_unasked, unkept_unasked, write_unasked}
 use Rattle.run_app.proofs.{CountLemmas.{rose_keep, rose_read, rose_write}, RejoinLemmas.runs_go_on}
 use Rattle.run_app.proofs.{RightLemmas.statements_right, SoundLemmas.lines_replayed, StopLemmas.stops_unbegun}
@@ -51,7 +52,7 @@ pub returns-in-Err-clause-usage : goal.returns-in-Err-clause-usage
 returns-in-Err-clause-usage g c = rw c.status_of_words.ensures (is_of_no_command c.in-Err.fault _ c.in-Err.ensures.usage)
 
 pub returns-in-Err-clause-reads : goal.returns-in-Err-clause-reads
-returns-in-Err-clause-reads g c = rw c.status_of_words.ensures (read_unasked _ c.in-Err.fault _)
+returns-in-Err-clause-reads g c = rw c.status_of_words.ensures (read_unasked (every_of (command_of (map string_bytes c.args.words.now))) c.in-Err.fault _)
 
 pub returns-in-Err-clause-writes : goal.returns-in-Err-clause-writes
 returns-in-Err-clause-writes g c = rw c.status_of_words.ensures (write_unasked c.in-Err.fault _ _)
