@@ -53,10 +53,6 @@ told_all first t left left' piece at end took = λ input told.
     let moves : Takes 0 a.0 piece left' = rw a.2 at took in
     (a.1 ∙ ap (λ (r : List ℕ). t ++ r) none, moves.rest ∙ ap Some none)
 
-one_there : (piece : List ℕ) (b : ℕ) → take 1 piece ≡ b ∷ [] → 1 ≤ length piece
-one_there [] b e = absurd cc
-one_there (x ∷ piece) b e = omega arith
-
 -- ---- where a run stands
 
 -- a line that has a fault, behind lines that were written
