@@ -1,5 +1,5 @@
 -- Counts of faults move with the status.
-use Rattle.std.proofs.Common.{◌≡◌, ◌⊎◌, ◌<◌, inl, inr, ℕ, Bool, true, false, List, Result, Ok, Err, IfErr, refl, ap, subst, arith}
+use Rattle.std.proofs.Common.{◌≡◌, ◌⊎◌, ◌<◌, inl, inr, ℕ, Bool, true, false, List, Result, Ok, Err, IfErr, OnErr, refl, ap, subst, arith}
 use Rattle.base_io.specs.Outside.{Rose}
 use Rattle.run_app.specs.declared.progress.Ending.{Ending}
 use Rattle.run_app.specs.declared.progress.Ending.TheVariants as ending
@@ -185,6 +185,11 @@ sink_loss (Err (stops.Ratio n over)) of = absurd of
 sink_loss (Err stops.Write) of = tt
 sink_loss (Err stops.Keep) of = absurd of
 sink_loss (Err stops.NoMemory) of = tt
+
+-- a fact that holds holds where a part stopped
+pub on_stop : {X : Type 0} (r : Result X LineStop) (P : Type 0) → P → OnErr r P
+on_stop (Ok x) P p = tt
+on_stop (Err why) P p = p
 
 -- a stop of the sink is none of the keeper, and the other way round
 pub sink_moved : {X : Type 0} (r : Result X LineStop) (count : ℕ) → IfErr r IsOfSink → Moved (is_keep_stop r) count count

@@ -10,9 +10,9 @@ use Rattle.run_app.proofs.line.take_line.Goals as goal
 below : (waiting every : ℕ) → waiting < 1 → 0 < every → waiting < every
 below waiting every few some = omega (arith, few, some)
 
-pub returns-then-line-gt-LONGEST-clause-stops : goal.returns-then-line-gt-LONGEST-clause-stops
-returns-then-line-gt-LONGEST-clause-stops g c = λ b lines end from k.
-    long_stops c.args.form c.args.every b.first _ _ lines end _ _ from _ k.number_is c.if-line-gt-LONGEST.true k
+pub returns-then-len-gt-LONGEST-clause-stops : goal.returns-then-len-gt-LONGEST-clause-stops
+returns-then-len-gt-LONGEST-clause-stops g c = λ b lines end from k.
+    long_stops c.args.form c.args.every b.first _ _ lines end _ _ from _ k.number_is c.if-len-gt-LONGEST.true k
 
 pub start-requires-clause-none : goal.start-requires-clause-none
 start-requires-clause-none g c = none_there _ c.in_default.not-Some
@@ -31,44 +31,44 @@ returns-in_default-clause-stops g c = λ b lines end from k. c.start.ensures.sto
 
 pub returns-in-Err-clause-stops : goal.returns-in-Err-clause-stops
 returns-in-Err-clause-stops g c = λ b lines end from k.
-    let p = stood c.args.form c.args.every b lines end _ _ _ _ _ from _ _ _ _ k c.if-line-gt-LONGEST.false c.in-Some.chain c.in-Some.is in
-    block_stops c.args.form c.args.every b lines end _ _ _ _ _ from _ _ _ _ k c.if-line-gt-LONGEST.false c.in-Some.chain c.in-Some.is c.advance.new.chain _ c.in-Err.stop (rw c.deref.ensures.value at (c.in-Err.ensures.err p.0 p.2)) c.in-Err.ensures.stays
+    let p = stood c.args.form c.args.every b lines end _ _ _ _ _ from _ _ _ _ k c.if-len-gt-LONGEST.false c.in-Some.chain c.in-Some.is in
+    block_stops c.args.form c.args.every b lines end _ _ _ _ _ from _ _ _ _ k c.if-len-gt-LONGEST.false c.in-Some.chain c.in-Some.is c.advance.new.chain _ c.in-Err.stop (rw c.deref.ensures.value at (c.in-Err.ensures.err p.0 p.2)) c.in-Err.ensures.stays
 
 pub returns-in-Err-clause-long : goal.returns-in-Err-clause-long
 returns-in-Err-clause-long g c =
     let r = c.requires.stands in
-    let p = stood c.args.form c.args.every r.0 r.1 r.2 _ _ _ _ _ r.3 _ _ _ _ r.4 c.if-line-gt-LONGEST.false c.in-Some.chain c.in-Some.is in
+    let p = stood c.args.form c.args.every r.0 r.1 r.2 _ _ _ _ _ r.3 _ _ _ _ r.4 c.if-len-gt-LONGEST.false c.in-Some.chain c.in-Some.is in
     fault_long c.in-Err.stop _ _ (c.in-Err.ensures.err p.0 p.2)
 
 pub returns-in-Err-clause-writes : goal.returns-in-Err-clause-writes
 returns-in-Err-clause-writes g c =
     let r = c.requires.stands in
-    let p = stood c.args.form c.args.every r.0 r.1 r.2 _ _ _ _ _ r.3 _ _ _ _ r.4 c.if-line-gt-LONGEST.false c.in-Some.chain c.in-Some.is in
+    let p = stood c.args.form c.args.every r.0 r.1 r.2 _ _ _ _ _ r.3 _ _ _ _ r.4 c.if-len-gt-LONGEST.false c.in-Some.chain c.in-Some.is in
     fault_unwritten (Unit {0}) c.in-Err.stop _ _ (c.in-Err.ensures.err p.0 p.2)
 
 pub returns-in-Err-clause-keeps : goal.returns-in-Err-clause-keeps
 returns-in-Err-clause-keeps g c =
     let r = c.requires.stands in
-    let p = stood c.args.form c.args.every r.0 r.1 r.2 _ _ _ _ _ r.3 _ _ _ _ r.4 c.if-line-gt-LONGEST.false c.in-Some.chain c.in-Some.is in
+    let p = stood c.args.form c.args.every r.0 r.1 r.2 _ _ _ _ _ r.3 _ _ _ _ r.4 c.if-len-gt-LONGEST.false c.in-Some.chain c.in-Some.is in
     fault_moved (Unit {0}) c.in-Err.stop _ _ (c.in-Err.ensures.err p.0 p.2)
 
 pub settle-requires-clause-stands : goal.settle-requires-clause-stands
 settle-requires-clause-stands g c =
     let r = c.requires.stands in
-    let p = stood c.args.form c.args.every r.0 r.1 r.2 _ _ _ _ _ r.3 _ _ _ _ r.4 c.if-line-gt-LONGEST.false c.in-Some.chain c.in-Some.is in
-    let s = block_stands c.args.form c.args.every r.0 r.1 r.2 _ _ _ _ _ r.3 _ _ _ _ r.4 c.if-line-gt-LONGEST.false c.in-Some.chain c.in-Some.is c.advance.new.chain _ (rw c.deref.ensures.value at (c.in_default-advance.ensures.ok p.0 p.2)) c.in_default-advance.ensures.settled in
+    let p = stood c.args.form c.args.every r.0 r.1 r.2 _ _ _ _ _ r.3 _ _ _ _ r.4 c.if-len-gt-LONGEST.false c.in-Some.chain c.in-Some.is in
+    let s = block_stands c.args.form c.args.every r.0 r.1 r.2 _ _ _ _ _ r.3 _ _ _ _ r.4 c.if-len-gt-LONGEST.false c.in-Some.chain c.in-Some.is c.advance.new.chain _ (rw c.deref.ensures.value at (c.in_default-advance.ensures.ok p.0 p.2)) c.in_default-advance.ensures.settled in
     (c.args.form, r.0, _, s.0, r.3, s.1)
 
 pub returns-clause-took : goal.returns-clause-took
 returns-clause-took g c = λ b lines end from k.
-    let p = stood c.args.form c.args.every b lines end _ _ _ _ _ from _ _ _ _ k c.if-line-gt-LONGEST.false c.in-Some.chain c.in-Some.is in
-    let s = block_stands c.args.form c.args.every b lines end _ _ _ _ _ from _ _ _ _ k c.if-line-gt-LONGEST.false c.in-Some.chain c.in-Some.is c.advance.new.chain _ (rw c.deref.ensures.value at (c.in_default-advance.ensures.ok p.0 p.2)) c.in_default-advance.ensures.settled in
+    let p = stood c.args.form c.args.every b lines end _ _ _ _ _ from _ _ _ _ k c.if-len-gt-LONGEST.false c.in-Some.chain c.in-Some.is in
+    let s = block_stands c.args.form c.args.every b lines end _ _ _ _ _ from _ _ _ _ k c.if-len-gt-LONGEST.false c.in-Some.chain c.in-Some.is c.advance.new.chain _ (rw c.deref.ensures.value at (c.in_default-advance.ensures.ok p.0 p.2)) c.in_default-advance.ensures.settled in
     on_ok_weaker c.settle.result (λ r. (s.0, r)) (c.settle.ensures.ok c.args.form b _ s.0 from s.1)
 
 pub returns-clause-stops : goal.returns-clause-stops
 returns-clause-stops g c = λ b lines end from k.
-    let p = stood c.args.form c.args.every b lines end _ _ _ _ _ from _ _ _ _ k c.if-line-gt-LONGEST.false c.in-Some.chain c.in-Some.is in
-    let s = block_stands c.args.form c.args.every b lines end _ _ _ _ _ from _ _ _ _ k c.if-line-gt-LONGEST.false c.in-Some.chain c.in-Some.is c.advance.new.chain _ (rw c.deref.ensures.value at (c.in_default-advance.ensures.ok p.0 p.2)) c.in_default-advance.ensures.settled in
+    let p = stood c.args.form c.args.every b lines end _ _ _ _ _ from _ _ _ _ k c.if-len-gt-LONGEST.false c.in-Some.chain c.in-Some.is in
+    let s = block_stands c.args.form c.args.every b lines end _ _ _ _ _ from _ _ _ _ k c.if-len-gt-LONGEST.false c.in-Some.chain c.in-Some.is c.advance.new.chain _ (rw c.deref.ensures.value at (c.in_default-advance.ensures.ok p.0 p.2)) c.in_default-advance.ensures.settled in
     loses_stops c.args.form c.args.every b.first _ _ _ _ from _ c.settle.result (c.settle.ensures.stops c.args.form b _ s.0 from s.1)
 
 pub returns-clause-long : goal.returns-clause-long

@@ -1,6 +1,6 @@
 use Rattle.std.proofs.Common.{◌≡◌, ◌<◌, ℕ, arith}
 use Rattle.run_app.specs.Kept.{LeftIn}
-use Rattle.run_app.proofs.CountLemmas.{keeper_loss, keeper_moved, sink_loss, sink_moved}
+use Rattle.run_app.proofs.CountLemmas.{keeper_loss, keeper_moved, on_stop, sink_loss, sink_moved}
 use Rattle.run_app.proofs.WaitLemmas.{has_grown, keep_loses, stands_fewer, stands_released, stands_unwritten}
 use Rattle.run_app.proofs.releasing.release.Goals as goal
 
@@ -42,7 +42,7 @@ returns-clause-stops g c = λ form every b lines end from k.
     stands_unwritten form every b lines end _ _ _ _ from _ _ _ _ _ _ _ _ k (c.in_default.ensures.ok b k.settled end k.kept) c.write_held.result _ (some_wait _ c.if-progress-eq0.false) c.write_held.ensures.err c.write_held.ensures.stop
 
 pub returns-clause-some : goal.returns-clause-some
-returns-clause-some g c = on_err c.write_held.result _ (some_wait _ c.if-progress-eq0.false)
+returns-clause-some g c = on_stop c.write_held.result _ (some_wait _ c.if-progress-eq0.false)
 
 pub returns-clause-loss : goal.returns-clause-loss
 returns-clause-loss g c = sink_loss c.write_held.result c.write_held.ensures.stop

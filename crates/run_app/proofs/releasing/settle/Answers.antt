@@ -14,3 +14,6 @@ release-requires g c =
 pub returns-clause-ok : goal.returns-clause-ok
 returns-clause-ok g c = λ form b lines end from k.
     on_ok_weaker c.release.result (λ r. stands_fewer form 1 b lines end _ _ _ _ from _ _ _ _ c.args.every (below _ _ r.waits.few c.requires.every) r) (c.release.ensures.ok form c.args.every b lines end from k)
+
+pub returns-clause-stops : goal.returns-clause-stops
+returns-clause-stops g c = λ form b lines end from k. c.release.ensures.stops form c.args.every b lines end from k
