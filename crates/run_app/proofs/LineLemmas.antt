@@ -20,7 +20,7 @@ use Rattle.run_app.specs.Machine.{Answer, HoldsAnswer, SettledAt, Standing, Stan
 use Rattle.run_app.specs.Parts.{IsFault, IsLoss, IsOfKeeper, IsOfSink, LongOnly, Loses, PartStops, Stands, UnlessNoMemory, is_keep_stop, is_write_stop, not_kept}
 use Rattle.run_app.proofs.AnswerLemmas.{block_fits, first_fits}
 use Rattle.run_app.proofs.KeepLemmas.{at_first, at_some, led_on, left_of, was_kept, was_unkept}
-use Rattle.run_app.proofs.PartLemmas.{fault_stops, lost_stops}
+use Rattle.run_app.proofs.PartLemmas.{fault_stops, long_stops, lost_stops}
 use Rattle.run_app.proofs.WaitLemmas.{keep_loses, one_waits, released, stands_lost, write_loses}
 
 -- ---- by what stopped it
@@ -209,16 +209,17 @@ module _ (form : Form) (every : ℕ) (b : Began) (lines : List (List ℕ)) (end 
         subst (λ (s : Standing). SettledAt (Some x') s) (sym s.2) (subst (λ m. StandsFor m s.0) (sym same) s.4)
 
     -- the block does not follow
-    pub block_stops : (x' : Chained) (held' : List ℕ) (why : LineStop) → IsFault why (block_answer form n stood.0 (block_of form line)) → UnlessNoMemory why ((held' ≡ held) × (x'.kept ≡ x.kept) × (x'.settled ≡ x.settled))
+    pub block_stops : (x' : Chained) (held' : List ℕ) (why : LineStop) (line' : List ℕ) → line' ≡ line → IsFault why (block_answer form n stood.0 (block_of form line')) → UnlessNoMemory why ((held' ≡ held) × (x'.kept ≡ x.kept) × (x'.settled ≡ x.settled))
         → PartStops form every b.first (LeftIn b told honest leaves) (λ before last. Stands form every b before last n (Some x') waiting held' from w told honest leaves) all (lines ++ line ∷ []) from w why
-    block_stops x' held' why of stays =
-        stopped_at (Some x') held' why (rw block_due of)
+    block_stops x' held' why line' same of stays =
+        stopped_at (Some x') held' why (rw block_due (subst (λ (l : List ℕ). IsFault why (block_answer form n stood.0 (block_of form l))) same of))
         (unless_then why ((held' ≡ held) × (x'.kept ≡ x.kept) × (x'.settled ≡ x.settled)) ((held' ≡ held) × StandsAt (Some x') end × SettledAt (Some x') k.settled) (λ e. (e.0, stands_so x' e.1, settled_so x' e.2)) stays)
 
     -- it leads the chain on, and waits
-    pub block_stands : (x' : Chained) (held' : List ℕ) → HoldsAnswer (block_answer form n stood.0 (block_of form line)) held held' (StandsAt (Some x')) → x'.settled ≡ x.settled
+    pub block_stands : (x' : Chained) (held' line' : List ℕ) → line' ≡ line → HoldsAnswer (block_answer form n stood.0 (block_of form line')) held held' (StandsAt (Some x')) → x'.settled ≡ x.settled
         → (next : Standing) × Stands form (every + 1) b (lines ++ line ∷ []) next (n + 1) (Some x') (waiting + 1) held' from w told honest leaves
-    block_stands x' held' a same =
+    block_stands x' held' line' is_line given same =
+        let a = subst (λ (l : List ℕ). HoldsAnswer (block_answer form n stood.0 (block_of form l)) held held' (StandsAt (Some x'))) is_line given in
         let due : line_answer form (1 + length lines) end line ≡ Ok a.0 = rw (← k.number_is) (block_due ∙ a.1) in (
           a.0.standing,
           record {
@@ -228,6 +229,12 @@ module _ (form : Form) (every : ℕ) (b : Began) (lines : List (List ℕ)) (end 
             kept = led_on b o told honest leaves k.settled end k.kept (Some x') a.0.standing a.3 (settled_so x' same);
           },
         )
+
+-- a line over its limit leaves what waits
+pub over_limit : (form : Form) (every : ℕ) (b : Began) (lines : List (List ℕ)) (end : Standing) (n : ℕ) (line : List ℕ) (o : Option Chained) (waiting : ℕ) (held : List ℕ) (from w : Option (List ℕ)) (told : Option (List Pair)) (honest : Type 0) (leaves : List Pair → Type 0) → longest < length line → Stands form every b lines end n o waiting held from w told honest leaves
+    → PartStops form every b.first (LeftIn b told honest leaves) (λ before last. Stands form every b before last n o waiting held from w told honest leaves) (λ (more : List (List ℕ)). lines ++ line ∷ more) (lines ++ line ∷ []) from w (stop.Long n)
+over_limit form every b lines end n line o waiting held from w told honest leaves long k =
+    long_stops form every b.first (LeftIn b told honest leaves) (λ before last. Stands form every b before last n o waiting held from w told honest leaves) lines end line n from w k.number_is long k
 
 -- ---- by the answer of a release
 

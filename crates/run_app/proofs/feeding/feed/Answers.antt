@@ -1,4 +1,4 @@
-use Rattle.std.proofs.Common.{◌≡◌, ◌∙◌, ◌++◌, ◌∷◌, [], ap, refl, sym, arith, append-nil, append_assoc, take, drop}
+use Rattle.std.proofs.Common.{◌≡◌, ◌∙◌, ◌+◌, ◌++◌, ◌∷◌, [], ap, refl, sym, arith, append-nil, append_assoc, take, drop}
 use Rattle.run_app.specs.Parts.{HasNoEnd}
 use Rattle.run_app.proofs.CountLemmas.{all_keeps, all_writes}
 use Rattle.run_app.proofs.PartLemmas.{piece_extends, piece_number, piece_stops, rest_fed, rest_of, taken_on}
@@ -75,3 +75,8 @@ returns-clause-writes g c = rw c.loop-end.invariant.write_quiet (all_writes c.ex
 
 pub returns-clause-keeps : goal.returns-clause-keeps
 returns-clause-keeps g c = rw c.loop-end.invariant.keep_quiet (all_keeps c.extend.result _ _ _ _ c.extend.ensures.err)
+
+pub extend-requires : goal.extend-requires
+extend-requires g c =
+    let r = c.requires.fed in
+    record { short = (c.loop-end.invariant.at.2 r.0 r.1 r.2 r.3 r.4).1.short }
