@@ -1,5 +1,5 @@
-use Rattle.std.proofs.Common.{rules, arith, refl, inl, inr, ◌≡◌, ◌∙◌, ◌⊎◌, ◌≢◌, ◌<◌, ◌≤◌, ℕ, length, slice_index_or}
-use Rattle.run_app.specs.{Kept.LeftIn, Machine.longest}
+use Rattle.std.proofs.Common.{rules, arith, refl, inl, inr, ◌≡◌, ◌∙◌, ◌⊎◌, ◌≢◌, ◌<◌, ◌≤◌, ℕ, [], length, slice_index_or}
+use Rattle.run_app.specs.{Kept.LeftIn, Machine.longest, Parts.Stands}
 use Rattle.run_app.proofs.CountLemmas.{loss_stopped, part_keeps, part_reads, part_writes}
 use Rattle.run_app.proofs.DriveLemmas.{byte_or, fed_fewer, fed_more, fed_released, first_of, limit_lost, long_ends, pass_ends, paused_from, read_ends, told_all}
 use Rattle.run_app.proofs.running.at_limit.Goals.{else-piece-ne10-via-then-piece-ne10+else-len-eq-LONGEST, else-piece-ne10-via-else-piece-ne10}
@@ -36,7 +36,7 @@ returns-in-Ok-eq0-clause-ends g c = λ b taken end from first full told k.
     let read = rw c.in-Ok-eq0.field-0-test at c.in-Ok-eq0.ensures in
     let m = fed_more c.args.form c.args.every b taken end _ _ _ _ _ from _ _ _ _ k in
     let s = fed_released c.args.form c.args.every b taken end _ _ _ _ _ from _ _ _ _ k _ _ _ _ _ _ _ _ _ c.release.ensures.line (c.in_default.ensures.ok c.args.form c.args.every b _ end from m.stands) in
-    paused_from c.args.form c.args.every b.first _ _ first _ from _ taken [] c.last_line.result (told_all first taken _ _ _ told (read.end refl) read.moved)
+    paused_from c.args.form c.args.every b.first (LeftIn b (g.D.Keeper.rows c.last_line.new.keeper) (g.D.Keeper.is_honest c.last_line.new.keeper) (g.D.Keeper.may_leave c.last_line.new.keeper)) (λ lines last. Stands c.args.form c.args.every b lines last c.last_line.new.progress.number c.last_line.new.progress.chain c.last_line.new.progress.waiting c.last_line.new.progress.held.items from (g.K.Sink.written c.last_line.new.sink) (g.D.Keeper.rows c.last_line.new.keeper) (g.D.Keeper.is_honest c.last_line.new.keeper) (g.D.Keeper.may_leave c.last_line.new.keeper)) first _ from (g.K.Sink.written c.last_line.new.sink) taken [] c.last_line.result (told_all first taken _ _ _ told (read.end refl) read.moved)
     (c.last_line.ensures.ends b taken end from (omega (arith, full)) (fed_fewer c.args.form c.args.every b taken end _ _ _ _ _ from _ _ _ _ c.requires.every s))
 
 pub returns-then-len-eq-LONGEST-clause-ends : goal.returns-then-len-eq-LONGEST-clause-ends

@@ -1,4 +1,5 @@
-use Rattle.std.proofs.Common.{◌≡◌, ◌<◌, ◌≤◌, inr, length, refl, rules, sym}
+use Rattle.std.proofs.Common.{◌≡◌, ◌<◌, ◌≤◌, [], inr, length, refl, rules, sym}
+use Rattle.run_app.specs.{Kept.LeftIn, Parts.Stands}
 use Rattle.run_app.proofs.CountLemmas.{ending_keeps, ending_reads, ending_stopped, ending_writes}
 use Rattle.run_app.proofs.DriveLemmas.{last_stops, stop_paused, with_last, without_last}
 use Rattle.run_app.proofs.running.last_line.Goals as goal
@@ -24,8 +25,8 @@ pub returns-in-Err-clause-ends : goal.returns-in-Err-clause-ends
 returns-in-Err-clause-ends g c =
     let some : 0 < length c.args.progress.now.line.items = search rules in
     λ b taken end from short k.
-    rw c.ending_of.ensures (stop_paused c.args.form c.args.every b.first _ _ taken [] _ from _ short (inr (refl, sym (with_last taken _ k.line_is some))) c.in-Err.stop
-    (last_stops c.args.form c.args.every b.first _ _ taken _ _ _ from _ c.in-Err.stop k.short c.in-Err.ensures.long (c.in-Err.ensures.stops b _ end from k.stands)))
+    rw c.ending_of.ensures (stop_paused c.args.form c.args.every b.first (LeftIn b (g.D.Keeper.rows c.take_line.new.keeper) (g.D.Keeper.is_honest c.take_line.new.keeper) (g.D.Keeper.may_leave c.take_line.new.keeper)) (λ lines last. Stands c.args.form c.args.every b lines last c.take_line.new.progress.number c.take_line.new.progress.chain c.take_line.new.progress.waiting c.take_line.new.progress.held.items from (g.K.Sink.written c.take_line.new.sink) (g.D.Keeper.rows c.take_line.new.keeper) (g.D.Keeper.is_honest c.take_line.new.keeper) (g.D.Keeper.may_leave c.take_line.new.keeper)) taken [] _ from (g.K.Sink.written c.take_line.new.sink) short (inr (refl, sym (with_last taken _ k.line_is some))) c.in-Err.stop
+    (last_stops c.args.form c.args.every b.first (LeftIn b (g.D.Keeper.rows c.take_line.new.keeper) (g.D.Keeper.is_honest c.take_line.new.keeper) (g.D.Keeper.may_leave c.take_line.new.keeper)) (λ lines last. Stands c.args.form c.args.every b lines last c.take_line.new.progress.number c.take_line.new.progress.chain c.take_line.new.progress.waiting c.take_line.new.progress.held.items from (g.K.Sink.written c.take_line.new.sink) (g.D.Keeper.rows c.take_line.new.keeper) (g.D.Keeper.is_honest c.take_line.new.keeper) (g.D.Keeper.may_leave c.take_line.new.keeper)) taken _ _ _ from _ c.in-Err.stop k.short c.in-Err.ensures.long (c.in-Err.ensures.stops b _ end from k.stands)))
 
 pub returns-in-Err-clause-stopped : goal.returns-in-Err-clause-stopped
 returns-in-Err-clause-stopped g c = rw c.ending_of.ensures (ending_stopped c.in-Err.stop)

@@ -1,5 +1,5 @@
 use Rattle.std.proofs.Common.{rules, arith, refl, inl, ◌≡◌, ◌∙◌, ◌≤◌, ◌<◌, ◌+◌, ◌++◌, [], ℕ, List, length, take, length-append, length-take-le}
-use Rattle.run_app.specs.Outcome.{most_bytes}
+use Rattle.run_app.specs.{Kept.LeftIn, Outcome.most_bytes, Parts.Stands}
 use Rattle.run_app.proofs.CountLemmas.{ending_keeps, ending_reads, ending_stopped, ending_writes}
 use Rattle.run_app.proofs.DriveLemmas.{fed_first, paused_from, read_paused, stop_paused, told_all, told_first, told_more, told_rest, told_still}
 use Rattle.run_app.proofs.PartLemmas.{number_fits}
@@ -33,7 +33,7 @@ pub returns-in-Ok-eq0-clause-ends : goal.returns-in-Ok-eq0-clause-ends
 returns-in-Ok-eq0-clause-ends g c = λ b k.
     let read = rw c.in-Ok-eq0.field-0-test at c.in-Ok-eq0.ensures in
     let a = c.loop-taken.invariant.at b k in
-    paused_from c.args.form c.args.every b.first _ _ _ _ _ _ a.0 [] c.last_line.result (told_all _ a.0 _ _ _ a.3 (read.end refl) read.moved)
+    paused_from c.args.form c.args.every b.first (LeftIn b (g.D.Keeper.rows c.last_line.new.keeper) (g.D.Keeper.is_honest c.last_line.new.keeper) (g.D.Keeper.may_leave c.last_line.new.keeper)) (λ lines last. Stands c.args.form c.args.every b lines last c.last_line.new.progress.number c.last_line.new.progress.chain c.last_line.new.progress.waiting c.last_line.new.progress.held.items (g.K.Sink.written c.args.sink.now) (g.K.Sink.written c.last_line.new.sink) (g.D.Keeper.rows c.last_line.new.keeper) (g.D.Keeper.is_honest c.last_line.new.keeper) (g.D.Keeper.may_leave c.last_line.new.keeper)) _ _ (g.K.Sink.written c.args.sink.now) (g.K.Sink.written c.last_line.new.sink) a.0 [] c.last_line.result (told_all _ a.0 _ _ _ a.3 (read.end refl) read.moved)
     (c.last_line.ensures.ends b a.0 a.1 _ (omega (arith, a.2, c.loop-taken.invariant.most)) a.4)
 
 pub feed-requires-clause-fed : goal.feed-requires-clause-fed
@@ -49,7 +49,7 @@ returns-in-Err-feed-clause-ends g c = λ b k.
     let t : List ℕ = a.0 ++ take c.in-Ok.n c.read_at_most.new.piece in
     let r = told_rest _ t _ (told_more _ a.0 _ _ c.in-Ok.n c.read_at_most.new.piece a.3 c.in-Ok.ensures.moved) in
     let size : length t ≤ most_bytes = omega (arith, a.2, length-append a.0 (take c.in-Ok.n c.read_at_most.new.piece), length-take-le c.in-Ok.n c.read_at_most.new.piece there, c.in-Ok.ensures.within, c.room.ensures.fits) in
-    rw c.ending_of.ensures (paused_from c.args.form c.args.every b.first _ _ _ _ _ _ t r.0 _ r.1 (stop_paused c.args.form c.args.every b.first _ _ t r.0 _ _ _ size (inl refl) c.in-Err-feed.stop (c.in-Err-feed.ensures.stops b a.0 a.1 _ a.4)))
+    rw c.ending_of.ensures (paused_from c.args.form c.args.every b.first (LeftIn b (g.D.Keeper.rows c.feed.new.keeper) (g.D.Keeper.is_honest c.feed.new.keeper) (g.D.Keeper.may_leave c.feed.new.keeper)) (λ lines last. Stands c.args.form c.args.every b lines last c.feed.new.progress.number c.feed.new.progress.chain c.feed.new.progress.waiting c.feed.new.progress.held.items (g.K.Sink.written c.args.sink.now) (g.K.Sink.written c.feed.new.sink) (g.D.Keeper.rows c.feed.new.keeper) (g.D.Keeper.is_honest c.feed.new.keeper) (g.D.Keeper.may_leave c.feed.new.keeper)) _ _ (g.K.Sink.written c.args.sink.now) (g.K.Sink.written c.feed.new.sink) t r.0 _ r.1 (stop_paused c.args.form c.args.every b.first (LeftIn b (g.D.Keeper.rows c.feed.new.keeper) (g.D.Keeper.is_honest c.feed.new.keeper) (g.D.Keeper.may_leave c.feed.new.keeper)) (λ lines last. Stands c.args.form c.args.every b lines last c.feed.new.progress.number c.feed.new.progress.chain c.feed.new.progress.waiting c.feed.new.progress.held.items (g.K.Sink.written c.args.sink.now) (g.K.Sink.written c.feed.new.sink) (g.D.Keeper.rows c.feed.new.keeper) (g.D.Keeper.is_honest c.feed.new.keeper) (g.D.Keeper.may_leave c.feed.new.keeper)) t r.0 _ (g.K.Sink.written c.args.sink.now) (g.K.Sink.written c.feed.new.sink) size (inl refl) c.in-Err-feed.stop (c.in-Err-feed.ensures.stops b a.0 a.1 _ a.4)))
 
 pub loop-taken-preserved : goal.loop-taken-preserved
 loop-taken-preserved g c =
