@@ -1,7 +1,7 @@
 -- Answers of a chain to lines, from the states for which it stands.
 use Rattle.std.proofs.Common.{◌≡◌, ◌∙◌, inl, inr, ℕ, ◌≤◌, false, nat_lt, List, [], ◌++◌, length, Option, Some, None, Result, Ok, Err, OnOk, IfErr, IfSome, refl, sym, ap, subst, arith}
 use Rattle.base_bech32.specs.declared.form.Form.{Form}
-use Rattle.base_io.specs.{Outside.IsPart, Calls.{AddsPart, Stays}, declared.keeper.KeepFault.KeepFault}
+use Rattle.base_io.specs.{Outside.IsPart, Calls.{AddsPart, Stays}}
 use Rattle.base_roles.specs.declared.{facts.Fact.Fact, refusal.Refusal.Refusal}
 use Rattle.base_coins.specs.Coins.{Money}
 use Rattle.base_messages.specs.declared.{block.Block.Block, faults.{BlockFault.BlockFault, LineFault.LineFault}}
@@ -13,16 +13,15 @@ use Rattle.rule_modules.specs.Chain.{State}
 use Rattle.rule_machine.specs.{GenesisConditions.start_condition, GenesisState.Start, Machine.{Step, step}}
 use Rattle.chain_modules.specs.Kept.{KeptState, StandsFor}
 use Rattle.chain_blocks.specs.Answers.{Applies}
-use Rattle.chain_whole.specs.{Answers.Starts, Chained.Chained}
+use Rattle.chain_whole.specs.{Answers.{LeavesChain, Starts}, Chained.{Chained, Listened}}
 use Rattle.run_app.specs.declared.status.LineStop.{LineStop}
-use Rattle.run_app.specs.Machine.{Standing, Answer, StandsAt, AnswersTo, longest, not_read, begun, told, started_answer, genesis_answer, not_applied, applied_answer, block_answer, answer_within, line_answer, report_of}
+use Rattle.run_app.specs.Machine.{Standing, Answer, StandsAt, HoldsAnswer, longest, not_read, begun, told, started_answer, genesis_answer, not_applied, applied_answer, block_answer, answer_within, line_answer, report_of}
 use Rattle.run_app.specs.Runs.{ran_report, Reported}
-use Rattle.run_app.specs.Parts.{IsFault, NotAnswered, Grows, Took, Finishes, FinishStops, not_kept}
+use Rattle.run_app.specs.Parts.{IsFault, Grows, Finishes, FinishStops, UnlessNoMemory}
 use Rattle.run_app.proofs.{PartLemmas.untold, RunLemmas.no_growth}
 use Rattle.run_app.specs.declared.status.LineStop.TheVariants as stop
 use Rattle.run_app.specs.declared.status.EndStop.TheVariants as ends
 use Rattle.run_app.specs.declared.status.InputFault.TheVariants as input
-use Rattle.base_io.specs.declared.keeper.KeepFault.TheVariants as keep
 
 -- an answer of this text, after which this state stands
 abbrev answer_of : List ℕ → State → Result Answer LineStop
@@ -35,14 +34,15 @@ started_with g r = Ok (told (begun g r))
 -- ---- the genesis
 
 -- a genesis that starts a chain is answered by its supply, and the chain stands for its state
-pub begins : (form : Form) (n : ℕ) (line : List ℕ) (g : Genesis) (facts : List Fact) (x : Chained) (coins : Money) (text : List ℕ) → genesis_of form line ≡ Ok g → start_condition g ≡ None → Starts g facts x.kept
-    → ((p : State) → StandsFor x.kept p → coins ≡ p.view.bank.supplies) → text ≡ text_of_genesis coins → AnswersTo (genesis_answer n (genesis_of form line)) text (StandsAt (Some x))
-begins form n line g facts x coins text read none starts supply is = (
-  Some starts.0,
+pub begins : (form : Form) (n : ℕ) (line : List ℕ) (g : Genesis) (facts : List Fact) (x : Chained) (coins : Money) (held held' : List ℕ) → genesis_of form line ≡ Ok g → start_condition g ≡ None → Starts g facts x.kept
+    → ((p : State) → StandsFor x.kept p → coins ≡ p.view.bank.supplies) → held' ≡ held ++ text_of_genesis coins → HoldsAnswer (genesis_answer n (genesis_of form line)) held held' (StandsAt (Some x))
+begins form n line g facts x coins held held' read none starts supply is = (
+  record { text = text_of_genesis coins; standing = Some starts.0 },
   ap (genesis_answer n) read
       ∙ ap (started_answer n g) none
       ∙ ap (λ (r : Result Start Refusal). started_with g r) starts.1
-      ∙ ap (λ (t : List ℕ). answer_of t starts.0) (sym (is ∙ ap text_of_genesis (supply starts.0 starts.2))),
+      ∙ ap (λ (t : List ℕ). answer_of t starts.0) (sym (ap text_of_genesis (supply starts.0 starts.2))),
+  is,
   starts.2,
 )
 
@@ -63,27 +63,6 @@ first_fits form n s line none short = fits form n s line short ∙ ap (λ (x : S
 pub block_fits : (form : Form) (n : ℕ) (p : State) (line : List ℕ) → length line ≤ longest → line_answer form n (Some p) line ≡ block_answer form n p (block_of form line)
 block_fits form n p line short = fits form n (Some p) line short
 
--- a fault of the line is why it is not answered
-pub faulted : (L : Standing → Standing → Type 0) (why : LineStop) (s : Standing) (due : Result Answer LineStop) → IsFault why due → L s s → NotAnswered L why s due
-faulted L (stop.BadInput m fault) s due h left = (h, left)
-faulted L (stop.Long m) s due h left = absurd h
-faulted L (stop.Ratio m over) s due h left = (h, left)
-faulted L stop.Write s due h left = absurd h
-faulted L stop.Keep s due h left = absurd h
-faulted L stop.NoMemory s due h left = inl left
-
--- so is a commit that failed
-pub unkept : (L : Standing → Standing → Type 0) (why : KeepFault) (s : Standing) (due : Result Answer LineStop) (a : Answer) → due ≡ Ok a → L s a.standing → NotAnswered L (not_kept why) s due
-unkept L keep.Failed s due a is left = (a, is, left)
-unkept L keep.NoMemory s due a is left = inr (a, is, left)
-
--- the same of a line as of what it is read as
-pub same_answer : (L : Standing → Standing → Type 0) (why : LineStop) (s : Standing) (due due' : Result Answer LineStop) → due' ≡ due → NotAnswered L why s due → NotAnswered L why s due'
-same_answer L why s due due' e h = subst (NotAnswered L why s) (sym e) h
-
-pub same_answers : {A : Type 0} (r : Result A LineStop) (due due' : Result Answer LineStop) (text : List ℕ) (P : Standing → Type 0) → due' ≡ due → OnOk r (AnswersTo due text P) → OnOk r (AnswersTo due' text P)
-same_answers r due due' text P e h = subst (λ (d : Result Answer LineStop). OnOk r (AnswersTo d text P)) (sym e) h
-
 -- ---- blocks
 
 -- a line that is no block has the fault of its reading
@@ -97,12 +76,12 @@ answered_by : (form : Form) (n : ℕ) (line : List ℕ) (b : Block) (p : State) 
 answered_by form n line b p r read steps = ap (block_answer form n p) read ∙ ap (applied_answer form n) steps
 
 -- a block that is applied is answered by its report, and what is kept stands for the state after it
-pub steps_on : (form : Form) (n : ℕ) (line : List ℕ) (b : Block) (p : State) (report : BlockReport) (new : Chained) (text : List ℕ) → block_of form line ≡ Ok b → Applies b p new.kept (Ok report)
-    → text ≡ text_of_block form report → AnswersTo (block_answer form n p (block_of form line)) text (StandsAt (Some new))
-steps_on form n line b p report new text read steps is = (
-  Some steps.0,
-  answered_by form n line b p (Ok (record { report = report; state = steps.0 })) read steps.1
-      ∙ ap (λ (t : List ℕ). answer_of t steps.0) (sym is),
+pub steps_on : (form : Form) (n : ℕ) (line : List ℕ) (b : Block) (p : State) (report : BlockReport) (new : Chained) (held held' : List ℕ) → block_of form line ≡ Ok b → Applies b p new.kept (Ok report)
+    → held' ≡ held ++ text_of_block form report → HoldsAnswer (block_answer form n p (block_of form line)) held held' (StandsAt (Some new))
+steps_on form n line b p report new held held' read steps is = (
+  record { text = text_of_block form report; standing = Some steps.0 },
+  answered_by form n line b p (Ok (record { report = report; state = steps.0 })) read steps.1,
+  is,
   steps.2,
 )
 
@@ -126,10 +105,16 @@ grown w w' text text' same wrote = λ old held.
     let h : w' ≡ Some (old ++ text') = subst (λ (o : Option (List ℕ)). IfSome o (λ (bytes : List ℕ). w' ≡ Some (bytes ++ text'))) held wrote in
     h ∙ ap (λ (t : List ℕ). Some (old ++ t)) same
 
--- a line was answered, and its text written
-pub took_on : (form : Form) (n : ℕ) (s : Standing) (line text text' : List ℕ) (P : Standing → Type 0) (w w' : Option (List ℕ)) → AnswersTo (line_answer form n s line) text P → text' ≡ text → IfSome w (λ (bytes : List ℕ). w' ≡ Some (bytes ++ text'))
-    → (next : Standing) × Took form n s line next w w' × P next
-took_on form n s line text text' P w w' answers same wrote = (answers.0, (text, answers.1, grown w w' text text' same wrote), answers.2)
+-- a block that is not applied leaves the chain, unless memory was wanting
+pub stays_on : {E P : Type 0} (heard : E → P) (old new : Listened E) (n : ℕ) (why : BlockFault) (Q : Type 0) → Q → LeavesChain heard old new (Err why) → UnlessNoMemory (not_applied n why) (Q × (new.kept ≡ old.kept) × (new.settled ≡ old.settled))
+stays_on heard old new n (block.BadHeight due) Q q h = (q, h.1.kept, h.1.settled)
+stays_on heard old new n (block.BadTime last) Q q h = (q, h.1.kept, h.1.settled)
+stays_on heard old new n (block.UnknownVote place) Q q h = (q, h.1.kept, h.1.settled)
+stays_on heard old new n (block.RepeatedVote place) Q q h = (q, h.1.kept, h.1.settled)
+stays_on heard old new n (block.BadPower place) Q q h = (q, h.1.kept, h.1.settled)
+stays_on heard old new n (block.BadEvidence place) Q q h = (q, h.1.kept, h.1.settled)
+stays_on heard old new n (block.RatioLimit over) Q q h = (q, h.1.kept, h.1.settled)
+stays_on heard old new n block.NoMemory Q q h = tt
 
 -- ---- the report
 

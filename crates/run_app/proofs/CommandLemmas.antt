@@ -11,7 +11,7 @@ use Rattle.run_app.specs.declared.status.Status.{Status}
 use Rattle.run_app.specs.declared.status.Status.TheVariants.{Done, Usage, BadInput, Limit, ReadFault, WriteFault, KeepFault, NoMemory, BadStore, WrongStore, NotFound, NoPast}
 use Rattle.run_app.specs.declared.performing.Way.{Way, TheVariants.{Plain, Kept, Past}}
 use Rattle.run_app.specs.Commands.{CommandEnds, CommandUnkept, IsUntroubledBy, WayEnds, WayUnkept, way_of}
-use Rattle.run_app.specs.Counts.{IsOfWords, Moved, is_keep_fault, is_read_fault, is_write_fault}
+use Rattle.run_app.specs.Counts.{IsOfWords, Moved, ReadMoved, is_keep_fault, is_write_fault}
 use Rattle.run_app.specs.{Ending.status_of_words, Kept.AreSome, Modes.{IsTried, IsUntroubledAt, ModeEnds}}
 use Rattle.run_app.specs.{Unkept.ModeUnkept, Writes.IsWritten, Seen.{keeper_told, sink_told, source_told}}
 use Rattle.run_app.proofs.{CheckLemmas.{check_unbegun, untroubled_check}, DriveLemmas.untroubled_run}
@@ -20,24 +20,24 @@ use Rattle.run_app.proofs.ResumeLemmas.{untroubled_query, untroubled_resume}
 use Rattle.run_app.proofs.{StatingLemmas.{statement_unbegun, untroubled_statement}, TallyLemmas.untroubled_tally}
 
 -- before anything is taken, a run may end where memory is wanting, and leaves all as it was
-mode_unbegun : (form : Form) (m : Mode) (left w : Option (List ℕ)) (rows : Option (List Pair)) (honest : Type 0) (leaves : List Pair → Type 0) → ModeEnds form m (source_told left left) (sink_told w w) (keeper_told rows rows honest leaves leaves) NoMemory
-mode_unbegun form Replay left w rows honest leaves = inr (tt, nothing_done left w, rows_left rows rows honest leaves leaves (same_rows rows) (λ h l x. x))
-mode_unbegun form Resume left w rows honest leaves = inr (inl (tt, nothing_done left w, rows_left rows rows honest leaves leaves (same_rows rows) (λ h l x. x)))
-mode_unbegun form (Query what) left w rows honest leaves = (refl, (rows_left rows rows honest leaves leaves (same_rows rows) (λ h l x. x), inr (tt, nothing w _ refl)))
-mode_unbegun form Tally left w rows honest leaves = (rows_left rows rows honest leaves leaves (same_rows rows) (λ h l x. x), inr (tt, nothing_done left w))
-mode_unbegun form Check left w rows honest leaves = (check_unbegun form left w, untouched rows leaves)
-mode_unbegun form (Statement delegator operator) left w rows honest leaves = (statement_unbegun form delegator operator left w, untouched rows leaves)
-mode_unbegun form (Gen seed count) left w rows honest leaves = ((refl, nothing w _ (record { rest = generated_text form seed count; text_is = refl })), untouched rows leaves)
-mode_unbegun form (Trial seed count) left w rows honest leaves = ((refl, tried_without_memory (trial_of seed count) w), untouched rows leaves)
+mode_unbegun : (form : Form) (every : ℕ) (m : Mode) (left w : Option (List ℕ)) (rows : Option (List Pair)) (honest : Type 0) (leaves : List Pair → Type 0) → ModeEnds form every m (source_told left left) (sink_told w w) (keeper_told rows rows honest leaves leaves) NoMemory
+mode_unbegun form every Replay left w rows honest leaves = inr (tt, nothing_done left w, rows_left rows rows honest leaves leaves (same_rows rows) (λ h l x. x))
+mode_unbegun form every Resume left w rows honest leaves = inr (inl (tt, nothing_done left w, rows_left rows rows honest leaves leaves (same_rows rows) (λ h l x. x)))
+mode_unbegun form every (Query what) left w rows honest leaves = (refl, (rows_left rows rows honest leaves leaves (same_rows rows) (λ h l x. x), inr (tt, nothing w _ refl)))
+mode_unbegun form every Tally left w rows honest leaves = (rows_left rows rows honest leaves leaves (same_rows rows) (λ h l x. x), inr (tt, nothing_done left w))
+mode_unbegun form every Check left w rows honest leaves = (check_unbegun form left w, untouched rows leaves)
+mode_unbegun form every (Statement delegator operator) left w rows honest leaves = (statement_unbegun form delegator operator left w, untouched rows leaves)
+mode_unbegun form every (Gen seed count) left w rows honest leaves = ((refl, nothing w _ (record { rest = generated_text form seed count; text_is = refl })), untouched rows leaves)
+mode_unbegun form every (Trial seed count) left w rows honest leaves = ((refl, tried_without_memory (trial_of seed count) w), untouched rows leaves)
 
-way_unbegun : (form : Form) (way : Way) (left w : Option (List ℕ)) (rows : Option (List Pair)) (honest : Type 0) (leaves : List Pair → Type 0) → WayEnds form way (source_told left left) (sink_told w w) (keeper_told rows rows honest leaves leaves) NoMemory
-way_unbegun form (Plain m) left w rows honest leaves = mode_unbegun form m left w rows honest leaves
-way_unbegun form (Kept m) left w rows honest leaves = inr (tt, nothing_done left w, rows_left rows rows honest leaves leaves (same_rows rows) (λ h l x. x))
-way_unbegun form (Past height what) left w rows honest leaves = (refl, (rows_left rows rows honest leaves leaves (same_rows rows) (λ h l x. x), inr (tt, nothing w _ refl)))
+way_unbegun : (form : Form) (every : ℕ) (way : Way) (left w : Option (List ℕ)) (rows : Option (List Pair)) (honest : Type 0) (leaves : List Pair → Type 0) → WayEnds form every way (source_told left left) (sink_told w w) (keeper_told rows rows honest leaves leaves) NoMemory
+way_unbegun form every (Plain m) left w rows honest leaves = mode_unbegun form every m left w rows honest leaves
+way_unbegun form every (Kept m) left w rows honest leaves = inr (tt, nothing_done left w, rows_left rows rows honest leaves leaves (same_rows rows) (λ h l x. x))
+way_unbegun form every (Past height what) left w rows honest leaves = (refl, (rows_left rows rows honest leaves leaves (same_rows rows) (λ h l x. x), inr (tt, nothing w _ refl)))
 
 ends_unbegun : (o : Option Command) (left w : Option (List ℕ)) (rows : Option (List Pair)) (honest : Type 0) (leaves : List Pair → Type 0) → CommandEnds o (source_told left left) (sink_told w w) (keeper_told rows rows honest leaves leaves) NoMemory
 ends_unbegun None left w rows honest leaves = (nothing_done left w, untouched rows leaves)
-ends_unbegun (Some c) left w rows honest leaves = way_unbegun c.form (way_of c) left w rows honest leaves
+ends_unbegun (Some c) left w rows honest leaves = way_unbegun c.form c.every (way_of c) left w rows honest leaves
 
 -- ---- words that ask for nothing
 
@@ -49,9 +49,9 @@ pub is_of_no_command : (f : WordsFault) (o : Option Command) → (f ≡ words.Us
 is_of_no_command words.Usage o none = none refl
 is_of_no_command words.NoMemory o none = tt
 
-pub read_unasked : (f : WordsFault) (count : ℕ) → Moved (is_read_fault (status_of_words f)) count count
-read_unasked words.Usage count = refl
-read_unasked words.NoMemory count = refl
+pub read_unasked : (every : ℕ) (f : WordsFault) (count : ℕ) → ReadMoved every (status_of_words f) count count
+read_unasked every words.Usage count = refl
+read_unasked every words.NoMemory count = inl refl
 
 pub write_unasked : (f : WordsFault) (count : ℕ) (P : Type 0) → Moved (is_write_fault (status_of_words f)) count count × (status_of_words f ≡ Done → P)
 write_unasked words.Usage count P = (refl, λ e. absurd cc)
@@ -92,26 +92,26 @@ unkept_unasked words.NoMemory o left w none = unkept_unbegun o left w
 
 -- ---- runs that come to their end
 
-pub untroubled_command : (form : Form) (m : Mode) (left left' w w' : Option (List ℕ)) (keeps : Bool) (rows rows' : Option (List Pair)) (honest' : Type 0) (leaves leaves' : List Pair → Type 0) (faults faults' : ℕ) (s : Status) → ModeEnds form m (source_told left left') (sink_told w w') (keeper_told rows rows' honest' leaves leaves') s
+pub untroubled_command : (form : Form) (every : ℕ) (m : Mode) (left left' w w' : Option (List ℕ)) (keeps : Bool) (rows rows' : Option (List Pair)) (honest' : Type 0) (leaves leaves' : List Pair → Type 0) (faults faults' : ℕ) (s : Status) → ModeEnds form every m (source_told left left') (sink_told w w') (keeper_told rows rows' honest' leaves leaves') s
     → IsUntroubledAt form m left keeps rows honest' faults faults' → (s ≡ Usage → ⊥) → (s ≡ ReadFault → ⊥) → (s ≡ WriteFault → ⊥) → (s ≡ KeepFault → Rose faults faults') → (keeps ≡ false → ModeUnkept m (source_told left left') (sink_told w w') s) → (s ≡ Done) ⊎ (s ≡ NoMemory)
-untroubled_command form Replay left left' w w' keeps rows rows' honest' leaves leaves' faults faults' s (inl ends) calm busy read write keep unkept =
-    untroubled_run form _ None left left' w w' s ends calm.0 busy read write (λ e. calm.1.quiet (keep e))
-untroubled_command form Replay left left' w w' keeps rows rows' honest' leaves leaves' faults faults' s (inr ends) calm busy read write keep unkept =
+untroubled_command form every Replay left left' w w' keeps rows rows' honest' leaves leaves' faults faults' s (inl ends) calm busy read write keep unkept =
+    untroubled_run form every _ None left left' w w' s ends calm.0 busy read write (λ e. calm.1.quiet (keep e))
+untroubled_command form every Replay left left' w w' keeps rows rows' honest' leaves leaves' faults faults' s (inr ends) calm busy read write keep unkept =
     unbegun_replay s (AreSome rows rows' honest') ends.0 (λ e. finds_none keeps rows rows' honest' calm.1.none calm.1.honest ends.2.rows_are (λ off. unkept off e)) (λ e. calm.1.quiet (keep e))
-untroubled_command form Resume left left' w w' keeps rows rows' honest' leaves leaves' faults faults' s ends calm busy read write keep unkept =
-    untroubled_resume form left left' w w' rows rows' honest' leaves leaves' faults faults' s ends calm busy read write keep
-untroubled_command form (Query what) left left' w w' keeps rows rows' honest' leaves leaves' faults faults' s ends calm busy read write keep unkept =
+untroubled_command form every Resume left left' w w' keeps rows rows' honest' leaves leaves' faults faults' s ends calm busy read write keep unkept =
+    untroubled_resume form every left left' w w' rows rows' honest' leaves leaves' faults faults' s ends calm busy read write keep
+untroubled_command form every (Query what) left left' w w' keeps rows rows' honest' leaves leaves' faults faults' s ends calm busy read write keep unkept =
     untroubled_query form what w w' rows rows' honest' leaves leaves' faults faults' s ends.1 calm write keep
-untroubled_command form Tally left left' w w' keeps rows rows' honest' leaves leaves' faults faults' s ends calm busy read write keep unkept =
+untroubled_command form every Tally left left' w w' keeps rows rows' honest' leaves leaves' faults faults' s ends calm busy read write keep unkept =
     untroubled_tally form left left' w w' rows rows' honest' leaves leaves' faults faults' s ends calm read write keep
-untroubled_command form Check left left' w w' keeps rows rows' honest' leaves leaves' faults faults' s ends calm busy read write keep unkept =
+untroubled_command form every Check left left' w w' keeps rows rows' honest' leaves leaves' faults faults' s ends calm busy read write keep unkept =
     untroubled_check form left left' w w' s ends.0 calm read write
-untroubled_command form (Statement delegator operator) left left' w w' keeps rows rows' honest' leaves leaves' faults faults' s ends calm busy read write keep unkept =
+untroubled_command form every (Statement delegator operator) left left' w w' keeps rows rows' honest' leaves leaves' faults faults' s ends calm busy read write keep unkept =
     untroubled_statement form delegator operator left left' w w' s ends.0 calm read write
-untroubled_command form (Gen seed count) left left' w w' keeps rows rows' honest' leaves leaves' faults faults' s ends calm busy read write keep unkept =
+untroubled_command form every (Gen seed count) left left' w w' keeps rows rows' honest' leaves leaves' faults faults' s ends calm busy read write keep unkept =
     let e = ends.0.1 in
     written_to_end (generated_text form seed count) e.0 s e.2 write
-untroubled_command form (Trial seed count) left left' w w' keeps rows rows' honest' leaves leaves' faults faults' s ends calm busy read write keep unkept =
+untroubled_command form every (Trial seed count) left left' w w' keeps rows rows' honest' leaves leaves' faults faults' s ends calm busy read write keep unkept =
     let e = ends.0.1 in
     let told : IsWritten calm.0 s e.0 = subst (λ d. IsTried d s e.0) calm.1 e.2 in
     written_to_end calm.0 e.0 s told write

@@ -1,21 +1,24 @@
 -- Where a run stands, and how it ends.
-use Rattle.std.proofs.Common.{◌⊎◌, inl, inr, ◌≡◌, ◌≢◌, ◌∙◌, ℕ, ◌+◌, ◌<◌, ◌≤◌, List, [], ◌∷◌, ◌++◌, length, Option, Some, None, IfSome, refl, sym, ap, subst, append_assoc, arith, take, drop, length-append, ne_eqb, slice_index_or, false, append-nil, take-append-drop, length-take-le}
-use Rattle.std.specs.Prelude.{⊤}
+use Rattle.std.proofs.Common.{◌⊎◌, inl, inr, ◌≡◌, ◌≢◌, ◌∙◌, ℕ, ◌+◌, ◌<◌, ◌≤◌, List, [], ◌∷◌, ◌++◌, length, Option, Some, None, Result, Ok, Err, IfSome, MatchResult, refl, sym, ap, subst, append_assoc, arith, take, drop, length-append, ne_eqb, slice_index_or, false, append-nil, take-append-drop}
 use Rattle.base_bech32.specs.declared.form.Form.{Form}
-use Rattle.base_io.specs.Calls.{Takes, Stays}
+use Rattle.base_io.specs.{Calls.{Takes, Stays}, Rows.Pair}
+use Rattle.chain_whole.specs.Chained.{Chained}
+use Rattle.run_app.specs.declared.progress.Ending.{Ending}
+use Rattle.run_app.specs.declared.progress.Ending.TheVariants as ending
 use Rattle.run_app.specs.declared.status.Status.{Status}
 use Rattle.run_app.specs.declared.status.Status.TheVariants.{Done, Usage, BadInput, Limit, ReadFault, WriteFault, KeepFault, NoMemory, BadStore, WrongStore, NotFound, NoPast}
 use Rattle.run_app.specs.declared.status.{LimitKind.TheVariants.{Line, Input, Ratio, Bound}, LineStop.LineStop}
-use Rattle.run_app.specs.declared.status.EndStop.{EndStop}
-use Rattle.run_app.specs.{Lines.{whole_from, rest_from, last_line, lines_from, lines_of}, Machine.{Standing, longest}}
-use Rattle.run_app.specs.Runs.{Ran, before, ran_from, AreAnswered, Named, Reported, Lacking, Finished}
-use Rattle.run_app.specs.Outcome.{Ends, HasBegun, RunEnds, answer_from, most_bytes, AreEnded, IsUntroubled}
-use Rattle.run_app.specs.Parts.{Stands, Fed, Finishes, FinishAs, FinishEnds, FinishStops, FinishStatus, status_at_end, PartEnds, PartStops, lines_after, LongOnly, EndLongOnly}
-use Rattle.run_app.{specs.{Ending.status_of, Told.{TakesFrom, Told}}, proofs.CutLemmas.{whole-append, lines-append}}
-use Rattle.run_app.proofs.RunLemmas.{fed-append, grows_on, no_growth, stops_along, named_along, wrote_along, unkept_along, held_along, ran-append, answered-append}
-use Rattle.run_app.proofs.PartLemmas.{too_long, none_fed}
 use Rattle.run_app.specs.declared.status.LineStop.TheVariants as stops
-use Rattle.run_app.specs.declared.status.EndStop.TheVariants as ends
+use Rattle.run_app.specs.Kept.{Began, Keeping, LeftIn}
+use Rattle.run_app.specs.{Ending.status_of, Lines.{whole_from, rest_from, last_line, lines_from, lines_of}, Machine.{Standing, longest}}
+use Rattle.run_app.specs.Runs.{Ran, ran_from, AreAnswered, Named, Lacking}
+use Rattle.run_app.specs.Outcome.{Ends, HasBegun, RunEnds, answer_from, most_bytes, AreEnded, IsUntroubled}
+use Rattle.run_app.specs.Parts.{EndsSo, Fed, Grows, IsAt, IsPaused, LongOnly, Loses, PartStops, PausedBefore, Pauses, Stands, ending_of}
+use Rattle.run_app.specs.Told.{TakesFrom, Told}
+use Rattle.run_app.proofs.CutLemmas.{lines-append}
+use Rattle.run_app.proofs.PartLemmas.{last-some, last-none, long_at}
+use Rattle.run_app.proofs.RunLemmas.{ran-append}
+use Rattle.run_app.proofs.WaitLemmas.{all_written, loses_more, stands_fewer, stands_more, start_waits}
 
 abbrev pub TookBytes : ℕ → List ℕ → Option (List ℕ) → Option (List ℕ) → Type 0
 TookBytes m piece left left' = IfSome left (λ bytes. Takes m bytes piece left')
@@ -50,184 +53,194 @@ told_all first t left left' piece at end took = λ input told.
     let moves : Takes 0 a.0 piece left' = rw a.2 at took in
     (a.1 ∙ ap (λ (r : List ℕ). t ++ r) none, moves.rest ∙ ap Some none)
 
-one_there : (piece : List ℕ) (b : ℕ) → take 1 piece ≡ b ∷ [] → 1 ≤ length piece
-one_there [] b e = absurd cc
-one_there (x ∷ piece) b e = omega arith
-
 -- ---- where a run stands
 
-pub stands_first : (form : Form) (s0 : Standing) (first w : Option (List ℕ)) (n : ℕ) (s : Standing) (line : List ℕ) → n ≡ 1 → s ≡ s0 → line ≡ [] → Stands form s0 first 0 n s line first w w
-stands_first form s0 first w n s line one none empty = rw (one, none, empty) (at_first first w)
-  where
-    at_first : (first w : Option (List ℕ)) → Stands form s0 first 0 1 s0 [] first w w
-    at_first first w = record { taken = []; told = told_first first; count_is = refl; fed = none_fed form 1 s0 [] w (omega arith) }
+-- a line that has a fault, behind lines that were written
+pub named_at : (form : Form) (before : List (List ℕ)) (end : Standing) (lines : List (List ℕ)) (fault : LineStop) (first : Standing) (L : Standing → Standing → Type 0) (text : List ℕ) → IsAt form before end lines fault → AreAnswered form 1 first before text end → L end end → Named form L 1 first lines text fault
+named_at form before end lines fault first L text at good left = record { before = before; line = at.line; after = at.after; middle = end; lines_are = at.lines_are; answered = good; fault_is = at.fault_is; left = left }
 
-pub read_ends : (form : Form) (L : Standing → Standing → Type 0) (s0 : Standing) (first : Option (List ℕ)) (count n : ℕ) (s : Standing) (line : List ℕ) (left left' w w' : Option (List ℕ)) → Stands form s0 first count n s line left w w' → L s s → count ≤ most_bytes → Stays left left' → RunEnds form s0 L first left' w w' ReadFault
-read_ends form L s0 first count n s line left left' w w' a kept most same =
-    let e : count ≡ length a.taken = a.count_is in
-    let r = told_rest first a.taken left' (told_still first a.taken left left' a.told same) in
-    (a.taken, r.0, a.fed.text, r.1, a.fed.grows, (rw (← e) most, record { end = s; answered = a.fed.answered; left = kept }))
-
-pub goes_on : (form : Form) (s0 : Standing) (first : Option (List ℕ)) (count n : ℕ) (s : Standing) (line : List ℕ) (n2 : ℕ) (s2 : Standing) (line2 : List ℕ) (left left' w w1 w2 : Option (List ℕ)) (m : ℕ) (piece : List ℕ) → Stands form s0 first count n s line left w w1 → TookBytes m piece left left'
-    → m ≤ length piece → Fed form n s line (take m piece) n2 s2 line2 w1 w2 → Stands form s0 first (count + m) n2 s2 line2 left' w w2
-goes_on form s0 first count n s line n2 s2 line2 left left' w w1 w2 m piece a took there fed =
-    let size : length (take m piece) ≡ m = length-take-le m piece there in
-    let e : count ≡ length a.taken = a.count_is in
-    record {
-      taken = a.taken ++ take m piece;
-      told = told_more first a.taken left left' m piece a.told took;
-      count_is = rw (length-append a.taken (take m piece), size) (omega arith);
-      fed = fed-append form 1 s0 [] a.taken n s line (take m piece) n2 s2 line2 w w1 w2 a.fed fed;
-    }
-
--- the stop of a piece is the stop of the run
-pub join : (form : Form) (L : Standing → Standing → Type 0) (s0 : Standing) (first : Option (List ℕ)) (count n : ℕ) (s : Standing) (line : List ℕ) (left left' w w1 w' : Option (List ℕ)) (m : ℕ) (piece : List ℕ) (stop : LineStop) (status : Status) → Stands form s0 first count n s line left w w1 → TookBytes m piece left left' → m ≤ length piece
-    → PartStops form L n s (lines_after line (take m piece)) (whole_from line (take m piece)) w1 w' stop
-    → ((t r text : List ℕ) → length t ≡ count + m → PartEnds form L 1 s0 (lines_after [] t) (whole_from [] t) stop text → Ends form s0 L t r status text)
-    → RunEnds form s0 L first left' w w' status
-join form L s0 first count n s line left left' w w1 w' m piece stop status a took there part ends =
-    let p : List ℕ = take m piece in
-    let size : length p ≡ m = length-take-le m piece there in
-    let e : count ≡ length a.taken = a.count_is in
-    let t : List ℕ = a.taken ++ p in
-    let done : List (List ℕ) = whole_from [] a.taken in
-    let o : PartStops form L 1 s0 (lines_after [] t) (whole_from [] t) w w' stop =
-    stops_along form L 1 n s0 done a.fed.text s (lines_after line p) (lines_after [] t) (λ (more : List ℕ). more) (whole_from line p) [] (whole_from [] t) w w1 w' stop a.fed.answered a.fed.number
-    (λ (more : List ℕ). ap (lines_from []) (append_assoc a.taken p more) ∙ lines-append a.taken [] (p ++ more) ∙ ap (λ (l : List ℕ). done ++ lines_from l (p ++ more)) (sym a.fed.line_is))
-    (whole-append a.taken [] p ∙ ap (λ (l : List ℕ). done ++ whole_from l p) (sym a.fed.line_is) ∙ ap (λ (l : List (List ℕ)). done ++ l) (sym (append-nil (whole_from line p))))
-    a.fed.grows part in
-    let r = told_rest first t left' (told_more first a.taken left left' m piece a.told took) in
-    (t, r.0, o.0, r.1, o.1, ends t r.0 o.0 (rw (length-append a.taken p, size) (omega arith)) o.2)
-
-part_ends : (form : Form) (L : Standing → Standing → Type 0) (s0 : Standing) (stop : LineStop) (count : ℕ) → count ≤ most_bytes → (t r text : List ℕ) → length t ≡ count → PartEnds form L 1 s0 (lines_after [] t) (whole_from [] t) stop text → Ends form s0 L t r (status_of stop) text
-part_ends form L s0 (stops.BadInput m fault) count most t r text e h = (rw e most, inl (whole_from [] t, inl refl, h))
-part_ends form L s0 (stops.Long m) count most t r text e h = (rw e (omega arith), h)
-part_ends form L s0 (stops.Ratio m over) count most t r text e h = (rw e most, whole_from [] t, inl refl, h)
-part_ends form L s0 stops.Write count most t r text e h = (rw e most, inl (whole_from [] t, inl refl, h))
-part_ends form L s0 stops.Keep count most t r text e h = (rw e most, whole_from [] t, inl refl, h)
-part_ends form L s0 stops.NoMemory count most t r text e h = (rw e most, inl (whole_from [] t, inl refl, h))
-
-pub feed_ends : (form : Form) (L : Standing → Standing → Type 0) (s0 : Standing) (first : Option (List ℕ)) (count n : ℕ) (s : Standing) (line : List ℕ) (left left' w w1 w' : Option (List ℕ)) (m : ℕ) (piece : List ℕ) (stop : LineStop) → Stands form s0 first count n s line left w w1 → TookBytes m piece left left'
-    → PartStops form L n s (lines_after line (take m piece)) (whole_from line (take m piece)) w1 w' stop → count + m ≤ most_bytes → m ≤ length piece → RunEnds form s0 L first left' w w' (status_of stop)
-feed_ends form L s0 first count n s line left left' w w1 w' m piece stop at took part most there = join form L s0 first count n s line left left' w w1 w' m piece stop (status_of stop) at took there part (part_ends form L s0 stop (count + m) most)
-
--- one byte more than the input may have, at which the line is too long
-long_stops : (form : Form) (L : Standing → Standing → Type 0) (n b : ℕ) (s : Standing) (line : List ℕ) (w : Option (List ℕ)) → L s s → b ≢ 10 → length line ≡ longest → PartStops form L n s (lines_after line (b ∷ [])) (whole_from line (b ∷ [])) w w (stops.Long n)
-long_stops form L n b s line w kept ne full = ([], no_growth w, λ more. rw (ne_eqb b 10 ne) (too_long form L more (line ++ b ∷ []) n s kept (rw (length-append line (b ∷ [])) (omega arith))))
-
-pub long_ends : (form : Form) (L : Standing → Standing → Type 0) (s0 : Standing) (first : Option (List ℕ)) (count n : ℕ) (s : Standing) (line : List ℕ) (left left' w w1 : Option (List ℕ)) (piece : List ℕ) (b : ℕ) → Stands form s0 first count n s line left w w1 → TookBytes 1 piece left left' → take 1 piece ≡ b ∷ [] → L s s → count ≤ most_bytes → b ≢ 10 → length line ≡ longest
-    → RunEnds form s0 L first left' w w1 (Limit n Line)
-long_ends form L s0 first count n s line left left' w w1 piece b at took one kept most ne full =
-    join form L s0 first count n s line left left' w w1 w1 1 piece (stops.Long n) (Limit n Line) at took (one_there piece b one) (rw one (long_stops form L n b s line w1 kept ne full)) (λ t r text e h. (rw e (omega arith), h))
-
-pub pass_ends : (form : Form) (L : Standing → Standing → Type 0) (s0 : Standing) (first : Option (List ℕ)) (count n : ℕ) (s : Standing) (line : List ℕ) (left left' w w1 : Option (List ℕ)) (piece : List ℕ) (b : ℕ) → Stands form s0 first count n s line left w w1 → TookBytes 1 piece left left' → take 1 piece ≡ b ∷ [] → L s s → count ≡ most_bytes → (b ≡ 10) ⊎ (length line < longest)
-    → RunEnds form s0 L first left' w w1 (Limit n Input)
-pass_ends form L s0 first count n s line left left' w w1 piece b a took one kept full short =
-    let told : Told first (a.taken ++ b ∷ []) left' = subst (λ (x : List ℕ). Told first (a.taken ++ x) left') one (told_more first a.taken left left' 1 piece a.told took) in
-    let r = told_rest first (a.taken ++ b ∷ []) left' told in (
-      a.taken ++ b ∷ [],
-      r.0,
-      a.fed.text,
-      r.1,
-      a.fed.grows,
-      record { bytes = a.taken; byte = b; taken_is = refl; full = sym a.count_is ∙ full; answered = record { end = s; answered = a.fed.answered; left = kept }; number = a.fed.number; line = rw (← a.fed.line_is) short },
-    )
-
--- ---- at the end of the input
-
-all_lines : (t line : List ℕ) → line ≡ rest_from [] t → lines_of t ≡ whole_from [] t ++ (last_line line ++ [])
-all_lines t line e = ap (λ (l : List ℕ). whole_from [] t ++ last_line l) (sym e) ∙ ap (λ (l : List (List ℕ)). whole_from [] t ++ l) (sym (append-nil (last_line line)))
-
-all_answered : (form : Form) (s0 : Standing) (n : ℕ) (s : Standing) (t line done text : List ℕ) (end : Standing) → AreAnswered form 1 s0 (whole_from [] t) done s → n ≡ 1 + length (whole_from [] t) → line ≡ rest_from [] t → AreAnswered form n s (last_line line) text end → AreAnswered form 1 s0 (lines_of t) (done ++ text) end
-all_answered form s0 n s t line done text end good number e h =
-    let h2 : AreAnswered form (1 + length (whole_from [] t)) s (last_line (rest_from [] t)) text end = rw (number, e) at h in
-    answered-append form 1 s0 (whole_from [] t) (last_line (rest_from [] t)) done s text end good h2
-
-all_finished : (form : Form) (L : Standing → Standing → Type 0) (s0 : Standing) (n : ℕ) (s : Standing) (t line done text : List ℕ) → AreAnswered form 1 s0 (whole_from [] t) done s → n ≡ 1 + length (whole_from [] t) → line ≡ rest_from [] t → Finished form L n s (last_line line) text → Finished form L 1 s0 (lines_of t) (done ++ text)
-all_finished form L s0 n s t line done text good number e h =
-    let h2 : ran_from form (1 + length (whole_from [] t)) s (last_line (rest_from [] t)) ≡ record { text = text; fault = None } = rw (number, e) at h.ran in
-    record {
-      end = h.end;
-      done = done ++ h.done;
-      answered = all_answered form s0 n s t line done h.done h.end good number e h.answered;
-      ran = ran-append form 1 s0 (whole_from [] t) (last_line (rest_from [] t)) done s good ∙ ap (before done) h2;
-      left = h.left;
-    }
-
-all_reported : (form : Form) (L : Standing → Standing → Type 0) (s0 : Standing) (n : ℕ) (s : Standing) (t line done text : List ℕ) → AreAnswered form 1 s0 (whole_from [] t) done s → n ≡ 1 + length (whole_from [] t) → line ≡ rest_from [] t → Reported form L n s (last_line line) text → Reported form L 1 s0 (lines_of t) (done ++ text)
-all_reported form L s0 n s t line done text good number e h = record {
-  end = h.end;
-  done = done ++ h.done;
-  report = h.report;
-  front = h.front;
-  answered = all_answered form s0 n s t line done h.done h.end good number e h.answered;
-  report_is = h.report_is;
-  part = h.part;
-  text_is = ap (λ (u : List ℕ). done ++ u) h.text_is ∙ sym (append_assoc done h.done h.front);
-  left = h.left;
+-- where it begins
+pub fed_first : (form : Form) (every : ℕ) (b : Began) (number : ℕ) (line : List ℕ) (chain : Option Chained) (waiting : ℕ) (held : List ℕ) (w : Option (List ℕ)) (told : Option (List Pair)) (honest : Type 0) (leaves : List Pair → Type 0)
+    → 0 < every → number ≡ 1 → line ≡ [] → waiting ≡ 0 → held ≡ [] → Keeping b chain told honest leaves b.first b.first → Fed form every b [] b.first number line chain waiting held w w told honest leaves
+fed_first form every b number line chain waiting held w told honest leaves some one empty none nothing kept = record {
+  stands = record { settled = b.first; number_is = one; waits = start_waits form every b.first waiting held w some none nothing; kept = kept };
+  line_is = empty;
+  short = rw empty (omega arith);
 }
 
-all_lacking : (form : Form) (L : Standing → Standing → Type 0) (s0 : Standing) (n : ℕ) (s : Standing) (t line done text : List ℕ) (fault : LineStop) → AreAnswered form 1 s0 (whole_from [] t) done s → n ≡ 1 + length (whole_from [] t) → line ≡ rest_from [] t → Lacking form L n s (last_line line) text fault → Lacking form L 1 s0 (lines_of t) (done ++ text) fault
-all_lacking form L s0 n s t line done text fault good number e h = record { end = h.end; answered = all_answered form s0 n s t line done text h.end good number e h.answered; fault_is = h.fault_is; left = h.left }
+module _ (form : Form) (every : ℕ) (b : Began) (taken : List ℕ) (end : Standing) (number : ℕ) (line : List ℕ) (chain : Option Chained) (waiting : ℕ) (held : List ℕ) (from w : Option (List ℕ)) (told : Option (List Pair)) (honest : Type 0) (leaves : List Pair → Type 0) (k : Fed form every b taken end number line chain waiting held from w told honest leaves) where
+  pub fed_more : Fed form (every + 1) b taken end number line chain waiting held from w told honest leaves
+  fed_more = record { stands = stands_more form every b (whole_from [] taken) end number chain waiting held from w told honest leaves k.stands; line_is = k.line_is; short = k.short }
 
-end_as : (form : Form) (L : Standing → Standing → Type 0) (s0 : Standing) (n : ℕ) (s : Standing) (t line done text : List ℕ) (status : Status) → length t ≤ most_bytes → AreAnswered form 1 s0 (whole_from [] t) done s → n ≡ 1 + length (whole_from [] t) → line ≡ rest_from [] t → FinishAs form L n s (last_line line) status text → Ends form s0 L t [] status (done ++ text)
-end_as form L s0 n s t line done text Done most good number e h = (refl, most, all_finished form L s0 n s t line done text good number e h)
-end_as form L s0 n s t line done text Usage most good number e h = absurd h
-end_as form L s0 n s t line done text (BadInput m fault) most good number e (inl h) = (most, inl (lines_of t, inr (refl, refl), named_along form L 1 s0 (whole_from [] t) done s (last_line line) [] (lines_of t) text _ good (all_lines t line e) (rw number at h)))
-end_as form L s0 n s t line done text (BadInput m fault) most good number e (inr h) = (most, inr (refl, all_lacking form L s0 n s t line done text _ good number e h))
-end_as form L s0 n s t line done text (Limit m Line) most good number e h = absurd h
-end_as form L s0 n s t line done text (Limit m Input) most good number e h = absurd h
-end_as form L s0 n s t line done text (Limit m (Ratio over)) most good number e h = (most, lines_of t, inr (refl, refl), named_along form L 1 s0 (whole_from [] t) done s (last_line line) [] (lines_of t) text _ good (all_lines t line e) (rw number at h))
-end_as form L s0 n s t line done text (Limit m (Bound over)) most good number e h = absurd h
-end_as form L s0 n s t line done text ReadFault most good number e h = absurd h
-end_as form L s0 n s t line done text WriteFault most good number e (inl h) = (most, inl (lines_of t, inr (refl, refl), wrote_along form L 1 s0 (whole_from [] t) done s (last_line line) [] (lines_of t) text good (all_lines t line e) (rw number at h)))
-end_as form L s0 n s t line done text WriteFault most good number e (inr (inl h)) = (most, inr (inl (refl, all_reported form L s0 n s t line done text good number e h)))
-end_as form L s0 n s t line done text WriteFault most good number e (inr (inr h)) = (most, inr (inr (refl, all_finished form L s0 n s t line done text good number e h)))
-end_as form L s0 n s t line done text KeepFault most good number e h = (most, lines_of t, inr (refl, refl), unkept_along form L 1 s0 (whole_from [] t) done s (last_line line) [] (lines_of t) text good (all_lines t line e) (rw number at h))
-end_as form L s0 n s t line done text NoMemory most good number e (inl (inl h)) = (most, inl (lines_of t, inr (refl, refl), inl (wrote_along form L 1 s0 (whole_from [] t) done s (last_line line) [] (lines_of t) text good (all_lines t line e) (rw number at h))))
-end_as form L s0 n s t line done text NoMemory most good number e (inl (inr (inl h))) = (most, inl (lines_of t, inr (refl, refl), inr (inl (held_along form L 1 s0 (whole_from [] t) done s (last_line line) [] (lines_of t) text good (all_lines t line e) (rw number at h)))))
-end_as form L s0 n s t line done text NoMemory most good number e (inl (inr (inr h))) = (most, inl (lines_of t, inr (refl, refl), inr (inr (unkept_along form L 1 s0 (whole_from [] t) done s (last_line line) [] (lines_of t) text good (all_lines t line e) (rw number at h)))))
-end_as form L s0 n s t line done text NoMemory most good number e (inr h) = (most, inr (refl, all_reported form L s0 n s t line done text good number e h))
-end_as form L s0 n s t line done text BadStore most good number e h = absurd h
-end_as form L s0 n s t line done text (WrongStore is_empty) most good number e h = absurd h
-end_as form L s0 n s t line done text NotFound most good number e h = absurd h
-end_as form L s0 n s t line done text (NoPast base last) most good number e h = absurd h
+  -- what waited was released
+  pub fed_released : (number' : ℕ) (line' : List ℕ) (chain' : Option Chained) (waiting' : ℕ) (held' : List ℕ) (w' : Option (List ℕ)) (told' : Option (List Pair)) (honest' : Type 0) (leaves' : List Pair → Type 0) → line' ≡ line → Stands form 1 b (whole_from [] taken) end number' chain' waiting' held' from w' told' honest' leaves'
+      → Fed form 1 b taken end number' line' chain' waiting' held' from w' told' honest' leaves'
+  fed_released number' line' chain' waiting' held' w' told' honest' leaves' same stands = record { stands = stands; line_is = same ∙ k.line_is; short = rw same k.short }
 
--- one line, or the report, that stops the end
-line_as : (form : Form) (L : Standing → Standing → Type 0) (n : ℕ) (s : Standing) (line : List ℕ) (ls : List (List ℕ)) (text : List ℕ) (stop : LineStop) → length line ≤ longest → LongOnly stop line → PartEnds form L n s (λ (_ : ⊤). ls) ls stop text → FinishAs form L n s ls (status_of stop) text
-line_as form L n s line ls text (stops.BadInput m fault) short long h = inl h
-line_as form L n s line ls text (stops.Long m) short long h = absurd (omega arith)
-line_as form L n s line ls text (stops.Ratio m over) short long h = h
-line_as form L n s line ls text stops.Write short long h = inl h
-line_as form L n s line ls text stops.Keep short long h = h
-line_as form L n s line ls text stops.NoMemory short long h = inl h
+-- where none wait fewer do
+pub fed_fewer : (form : Form) (every : ℕ) (b : Began) (taken : List ℕ) (end : Standing) (number : ℕ) (line : List ℕ) (chain : Option Chained) (waiting : ℕ) (held : List ℕ) (from w : Option (List ℕ)) (told : Option (List Pair)) (honest : Type 0) (leaves : List Pair → Type 0) → 0 < every → Fed form 1 b taken end number line chain waiting held from w told honest leaves
+    → Fed form every b taken end number line chain waiting held from w told honest leaves
+fed_fewer form every b taken end number line chain waiting held from w told honest leaves some k =
+    let few : waiting < 1 = k.stands.waits.few in
+    record { stands = stands_fewer form 1 b (whole_from [] taken) end number chain waiting held from w told honest leaves every (omega (arith, few, some)) k.stands; line_is = k.line_is; short = k.short }
 
-end_stop_as : (form : Form) (L : Standing → Standing → Type 0) (n : ℕ) (s : Standing) (line : List ℕ) (ls : List (List ℕ)) (text : List ℕ) (stop : EndStop) → length line ≤ longest → EndLongOnly stop line → FinishEnds form L n s ls stop text → FinishAs form L n s ls (status_at_end stop) text
-end_stop_as form L n s line ls text (ends.Line stop) short long h = line_as form L n s line ls text stop short long h
-end_stop_as form L n s line ls text (ends.Lacking m fault) short long h = inr h
-end_stop_as form L n s line ls text ends.Report short long h = inr (inl h)
-end_stop_as form L n s line ls text ends.Flush short long h = inr (inr h)
-end_stop_as form L n s line ls text ends.NoMemory short long (inl h) = inr h
-end_stop_as form L n s line ls text ends.NoMemory short long (inr h) = inl (inr (inl (record { before = ls; after = []; middle = h.end; lines_are = sym (append-nil ls); answered = h.answered; left = h.left })))
+-- ---- lines that are lost end a run
 
-pub end_stop_status : (form : Form) (L : Standing → Standing → Type 0) (n : ℕ) (s : Standing) (line : List ℕ) (ls : List (List ℕ)) (w w' : Option (List ℕ)) (stop : EndStop) → length line ≤ longest → EndLongOnly stop line → FinishStops form L n s ls w w' stop → FinishStatus form L n s ls w w' (status_at_end stop)
-end_stop_status form L n s line ls w w' stop short long o = (o.0, o.1, end_stop_as form L n s line ls o.0 stop short long o.2)
+pub loses_ends : (form : Form) (every : ℕ) (first : Standing) (L : Standing → Standing → Type 0) (taken rest : List ℕ) (lines : List (List ℕ)) (from w : Option (List ℕ)) (why : LineStop) → length taken ≤ most_bytes → AreEnded lines taken rest → Loses form every first L lines from w why → EndsSo form every first L taken rest from w (status_of why)
+loses_ends form every first L taken rest lines from w stops.Write short ended h = (h.0, h.1, (short, inl (lines, ended, h.2)))
+loses_ends form every first L taken rest lines from w stops.Keep short ended h = (h.0, h.1, (short, lines, ended, h.2))
+loses_ends form every first L taken rest lines from w stops.NoMemory short ended h = (h.0, h.1, (short, inl (lines, ended, h.2)))
+loses_ends form every first L taken rest lines from w (stops.BadInput m fault) short ended h = absurd h
+loses_ends form every first L taken rest lines from w (stops.Long m) short ended h = absurd h
+loses_ends form every first L taken rest lines from w (stops.Ratio m over) short ended h = absurd h
 
-pub end_ends : (form : Form) (L : Standing → Standing → Type 0) (s0 : Standing) (first : Option (List ℕ)) (count n : ℕ) (s : Standing) (line : List ℕ) (left left' w w1 w' : Option (List ℕ)) (piece : List ℕ) (status : Status) → Stands form s0 first count n s line left w w1 → count ≤ most_bytes → IfSome left (λ bytes. bytes ≡ []) → TookBytes 0 piece left left'
-    → FinishStatus form L n s (last_line line) w1 w' status → RunEnds form s0 L first left' w w' status
-end_ends form L s0 first count n s line left left' w w1 w' piece status a most end took o =
-    let e : count ≡ length a.taken = a.count_is in (
-      a.taken,
-      [],
-      a.fed.text ++ o.0,
-      told_all first a.taken left left' piece a.told end took,
-      grows_on w w1 w' a.fed.text o.0 a.fed.grows o.1,
-      end_as form L s0 n s a.taken line a.fed.text o.0 status (rw (← e) most) a.fed.answered a.fed.number a.fed.line_is o.2,
-    )
+-- ---- where no more lines are taken
 
--- a run that comes to its end
-pub done_status : (form : Form) (L : Standing → Standing → Type 0) (n : ℕ) (s : Standing) (lines : List (List ℕ)) (w w' : Option (List ℕ)) → Finishes form L n s lines w w' → FinishStatus form L n s lines w w' Done
-done_status form L n s lines w w' ends = (ends.0, ends.2, ends.1)
+-- a line that has a fault
+module _ (form : Form) (every : ℕ) (first : Standing) (L : Standing → Standing → Type 0) (W : List (List ℕ) → Standing → Type 0) (taken rest : List ℕ) (ended : List (List ℕ)) (from w : Option (List ℕ)) (short : length taken ≤ most_bytes) (are : AreEnded ended taken rest) where
+  fault_at : (before : List (List ℕ)) (end : Standing) (fault : LineStop) → IsAt form before end ended fault → (more : List (List ℕ)) × AreEnded (before ++ more) taken rest × IsAt form before end (before ++ more) fault
+  fault_at before end fault at = (at.line ∷ at.after, subst (λ (l : List (List ℕ)). AreEnded l taken rest) at.lines_are are, record { line = at.line; after = at.after; lines_are = refl; fault_is = at.fault_is })
+
+  pub stop_paused : (why : LineStop) → PartStops form every first L W (λ (more : List ℕ). lines_of (taken ++ more)) ended from w why → MatchResult (ending_of why) (IsPaused form taken rest W) (EndsSo form every first L taken rest from w)
+  stop_paused (stops.BadInput m fault) h =
+      let at = fault_at h.0 h.1 (stops.BadInput m fault) h.3 in
+      record { short = short; lines = h.0; more = at.0; end = h.1; ended = at.1; waits = h.2; why = at.2 }
+  stop_paused (stops.Ratio m over) h =
+      let at = fault_at h.0 h.1 (stops.Ratio m over) h.3 in
+      record { short = short; lines = h.0; more = at.0; end = h.1; ended = at.1; waits = h.2; why = at.2 }
+  stop_paused (stops.Long m) h = record { short = short; lines = h.0; more = h.1; end = h.2; ended = subst (λ (l : List (List ℕ)). AreEnded l taken rest) h.4 are; waits = h.3; why = h.5 }
+  stop_paused stops.Write h = loses_ends form every first L taken rest ended from w stops.Write short are h
+  stop_paused stops.Keep h = loses_ends form every first L taken rest ended from w stops.Keep short are h
+  stop_paused stops.NoMemory h = loses_ends form every first L taken rest ended from w stops.NoMemory short are h
+
+-- the last line, which came without its end, is not too long
+pub last_stops : (form : Form) (every : ℕ) (first : Standing) (L : Standing → Standing → Type 0) (W : List (List ℕ) → Standing → Type 0) (taken line : List ℕ) (lines ended : List (List ℕ)) (from w : Option (List ℕ)) (why : LineStop) → length line ≤ longest → LongOnly why line
+    → PartStops form every first L W (λ (more : List (List ℕ)). lines ++ line ∷ more) ended from w why → PartStops form every first L W (λ (more : List ℕ). lines_of (taken ++ more)) ended from w why
+last_stops form every first L W taken line lines ended from w (stops.BadInput m fault) short long h = h
+last_stops form every first L W taken line lines ended from w (stops.Ratio m over) short long h = h
+last_stops form every first L W taken line lines ended from w (stops.Long m) short long h = absurd (omega (arith, short, long))
+last_stops form every first L W taken line lines ended from w stops.Write short long h = h
+last_stops form every first L W taken line lines ended from w stops.Keep short long h = h
+last_stops form every first L W taken line lines ended from w stops.NoMemory short long h = h
+
+-- with it the lines are all
+pub with_last : (taken line : List ℕ) → line ≡ rest_from [] taken → 0 < length line → lines_of taken ≡ whole_from [] taken ++ line ∷ []
+with_last taken line is some = ap (λ (l : List ℕ). whole_from [] taken ++ last_line l) (sym is) ∙ ap (λ (l : List (List ℕ)). whole_from [] taken ++ l) (last-some line some)
+
+pub without_last : (taken line : List ℕ) → line ≡ rest_from [] taken → length line ≡ 0 → lines_of taken ≡ whole_from [] taken
+without_last taken line is none = ap (λ (l : List ℕ). whole_from [] taken ++ last_line l) (sym is) ∙ ap (λ (l : List (List ℕ)). whole_from [] taken ++ l) (last-none line none) ∙ append-nil (whole_from [] taken)
+
+-- a fault of the source
+pub read_paused : (form : Form) (W : List (List ℕ) → Standing → Type 0) (taken rest : List ℕ) (end : Standing) → length taken ≤ most_bytes → W (whole_from [] taken) end → IsPaused form taken rest W (ending.Before ReadFault)
+read_paused form W taken rest end short waits = record { short = short; lines = whole_from [] taken; more = []; end = end; ended = inl (append-nil (whole_from [] taken)); waits = waits; why = refl }
+
+-- the bytes were those of the source
+pub paused_from : (form : Form) (every : ℕ) (first : Standing) (L : Standing → Standing → Type 0) (W : List (List ℕ) → Standing → Type 0) (left left' from w : Option (List ℕ)) (taken rest : List ℕ) (r : Result Ending Status) → TakesFrom left left' taken rest
+    → MatchResult r (IsPaused form taken rest W) (EndsSo form every first L taken rest from w) → MatchResult r (Pauses form left left' W) (RunEnds form every first L left left' from w)
+paused_from form every first L W left left' from w taken rest (Ok e) told h = (taken, rest, told, h)
+paused_from form every first L W left left' from w taken rest (Err status) told h = (taken, rest, h.0, told, h.1, h.2)
+
+pub ends_from : (form : Form) (every : ℕ) (first : Standing) (L : Standing → Standing → Type 0) (left left' from w : Option (List ℕ)) (taken rest : List ℕ) (status : Status) → TakesFrom left left' taken rest → EndsSo form every first L taken rest from w status → RunEnds form every first L left left' from w status
+ends_from form every first L left left' from w taken rest status told h = (taken, rest, h.0, told, h.1, h.2)
+
+-- ---- as many bytes were taken as an input may have
+
+-- what waited was lost
+pub limit_lost : (form : Form) (every : ℕ) (s0 : Standing) (L : Standing → Standing → Type 0) (taken : List ℕ) (first left from w : Option (List ℕ)) (why : LineStop) → length taken ≡ most_bytes → Told first taken left → Loses form every s0 L (whole_from [] taken) from w why → RunEnds form every s0 L first left from w (status_of why)
+limit_lost form every s0 L taken first left from w why full told h =
+    let r = told_rest first taken left told in
+    ends_from form every s0 L first left from w taken r.0 (status_of why) r.1 (loses_ends form every s0 L taken r.0 (whole_from [] taken) from w why (omega (arith, full)) (inl refl) h)
+
+-- what waited was released
+module _ (form : Form) (every : ℕ) (b : Began) (taken : List ℕ) (end : Standing) (number : ℕ) (line : List ℕ) (chain : Option Chained) (waiting : ℕ) (held : List ℕ) (from w : Option (List ℕ)) (told : Option (List Pair)) (honest : Type 0) (leaves : List Pair → Type 0) (full : length taken ≡ most_bytes) (k : Fed form 1 b taken end number line chain waiting held from w told honest leaves) (first : Option (List ℕ)) where
+  abbrev pub L : Standing → Standing → Type 0
+  L = LeftIn b told honest leaves
+
+  -- the source failed
+  pub read_ends : (left left' : Option (List ℕ)) → Told first taken left → Stays left left' → RunEnds form every b.first L first left' from w ReadFault
+  read_ends left left' at same =
+      let a = all_written form 1 b (whole_from [] taken) end number chain waiting held from w told honest leaves k.stands in
+      let r = told_rest first taken left' (told_still first taken left left' at same) in
+      (taken, r.0, a.0, r.1, a.1, (omega (arith, full), record { end = end; answered = a.2; left = a.3 }))
+
+  module _ (left left' : Option (List ℕ)) (piece : List ℕ) (c : ℕ) (at : Told first taken left) (took : TookBytes 1 piece left left') (one : take 1 piece ≡ c ∷ []) where
+    told_one : Told first (taken ++ c ∷ []) left'
+    told_one = subst (λ (x : List ℕ). Told first (taken ++ x) left') one (told_more first taken left left' 1 piece at took)
+
+    size : length (taken ++ c ∷ []) ≤ most_bytes + 1
+    size = rw (length-append taken (c ∷ [])) (omega (arith, full))
+
+    -- one byte more comes, at which the line is too long
+    pub long_ends : c ≢ 10 → length line ≡ longest → RunEnds form every b.first L first left' from w (Limit number Line)
+    long_ends ne most =
+        let a = all_written form 1 b (whole_from [] taken) end number chain waiting held from w told honest leaves k.stands in
+        let r = told_rest first (taken ++ c ∷ []) left' told_one in
+        let long : longest < length (line ++ c ∷ []) = rw (length-append line (c ∷ [])) (omega (arith, most)) in (
+          taken ++ c ∷ [],
+          r.0,
+          a.0,
+          r.1,
+          a.1,
+          (
+            size,
+            λ more. (let at = long_at form taken (c ∷ []) end line number number refl k.stands.number_is k.line_is (ne_eqb c 10 ne, tt) long more in named_at form (whole_from [] taken) end (lines_of ((taken ++ c ∷ []) ++ more)) (stops.Long number) b.first L a.0 at a.2 a.3),
+          ),
+        )
+
+    -- or it is not
+    pub pass_ends : (c ≡ 10) ⊎ (length line < longest) → RunEnds form every b.first L first left' from w (Limit number Input)
+    pass_ends short =
+        let a = all_written form 1 b (whole_from [] taken) end number chain waiting held from w told honest leaves k.stands in
+        let r = told_rest first (taken ++ c ∷ []) left' told_one in (
+          taken ++ c ∷ [],
+          r.0,
+          a.0,
+          r.1,
+          a.1,
+          record { bytes = taken; byte = c; taken_is = refl; full = full; answered = record { end = end; answered = a.2; left = a.3 }; number = k.stands.number_is; line = rw (← k.line_is) short },
+        )
+
+-- ---- what waited was released
+
+-- some lines were answered
+pub pause_first : (form : Form) (left left' : Option (List ℕ)) (W : List (List ℕ) → Standing → Type 0) (e : Ending) → Pauses form left left' W e → (lines : List (List ℕ)) × (end : Standing) × W lines end
+pause_first form left left' W ending.End p = (lines_of p.0, p.3.2, p.3.3)
+pause_first form left left' W (ending.Before status) p = (p.3.lines, p.3.end, p.3.waits)
+
+-- or it was lost
+pub pause_lost : (form : Form) (every : ℕ) (first : Standing) (L : Standing → Standing → Type 0) (W : List (List ℕ) → Standing → Type 0) (left left' from w : Option (List ℕ)) (why : LineStop) (e : Ending) → Pauses form left left' W e → ((lines : List (List ℕ)) (end : Standing) → W lines end → Loses form every first L lines from w why)
+    → RunEnds form every first L left left' from w (status_of why)
+pause_lost form every first L W left left' from w why ending.End p lost =
+    ends_from form every first L left left' from w p.0 p.1 (status_of why) p.2
+    (loses_ends form every first L p.0 p.1 (lines_of p.0) from w why p.3.1 (inr (p.3.0, refl)) (lost (lines_of p.0) p.3.2 p.3.3))
+pause_lost form every first L W left left' from w why (ending.Before status) p lost =
+    ends_from form every first L left left' from w p.0 p.1 (status_of why) p.2
+    (loses_ends form every first L p.0 p.1 (p.3.lines ++ p.3.more) from w why p.3.short p.3.ended (loses_more form every first L p.3.lines p.3.more from w why (lost p.3.lines p.3.end p.3.waits)))
+
+-- the lines before a fault were written
+module _ (form : Form) (every : ℕ) (first : Standing) (L : Standing → Standing → Type 0) (W : List (List ℕ) → Standing → Type 0) (taken rest text : List ℕ) where
+  paused_as : (status : Status) (p : PausedBefore form taken rest W status) → AreAnswered form 1 first p.lines text p.end → L p.end p.end → Ends form every first L taken rest status text
+  paused_as (BadInput n fault) p good left = (p.short, inl (p.lines ++ p.more, p.ended, named_at form p.lines p.end (p.lines ++ p.more) (stops.BadInput n fault) first L text p.why good left))
+  paused_as (Limit n Line) p good left = (let short : length taken ≤ most_bytes = p.short in omega (arith, short), λ more. named_at form p.lines p.end (lines_of (taken ++ more)) (stops.Long n) first L text (p.why more) good left)
+  paused_as (Limit n (Ratio over)) p good left = (p.short, p.lines ++ p.more, p.ended, named_at form p.lines p.end (p.lines ++ p.more) (stops.Ratio n over) first L text p.why good left)
+  paused_as (Limit n Input) p good left = absurd p.why
+  paused_as (Limit n (Bound over)) p good left = absurd p.why
+  paused_as ReadFault p good left = (p.short, record { end = p.end; answered = subst (λ (l : List (List ℕ)). AreAnswered form 1 first l text p.end) p.why good; left = left })
+  paused_as Done p good left = absurd p.why
+  paused_as Usage p good left = absurd p.why
+  paused_as WriteFault p good left = absurd p.why
+  paused_as KeepFault p good left = absurd p.why
+  paused_as NoMemory p good left = absurd p.why
+  paused_as BadStore p good left = absurd p.why
+  paused_as (WrongStore is_empty) p good left = absurd p.why
+  paused_as NotFound p good left = absurd p.why
+  paused_as (NoPast base last) p good left = absurd p.why
+
+pub pause_ends : (form : Form) (every : ℕ) (first : Standing) (L : Standing → Standing → Type 0) (W : List (List ℕ) → Standing → Type 0) (left left' from w : Option (List ℕ)) (status : Status) → Pauses form left left' W (ending.Before status)
+    → ((lines : List (List ℕ)) (end : Standing) → W lines end → (text : List ℕ) × Grows from w text × AreAnswered form 1 first lines text end × L end end) → RunEnds form every first L left left' from w status
+pause_ends form every first L W left left' from w status p written =
+    let a = written p.3.lines p.3.end p.3.waits in
+    (p.0, p.1, a.0, p.2, a.1, paused_as form every first L W p.0 p.1 a.0 status p.3 a.2 a.3)
 
 pub first_of : (piece : List ℕ) (d : ℕ) → 0 < length piece → take 1 piece ≡ slice_index_or piece 0 d ∷ []
 first_of [] d h = absurd (omega arith)
@@ -248,60 +261,57 @@ lacking_ran form L n s lines text fault w = ap (λ (ls : List (List ℕ)). (ran_
 at_end : (taken rest : List ℕ) → rest ≡ [] → taken ++ rest ≡ taken
 at_end taken rest none = ap (λ (r : List ℕ). taken ++ r) none ∙ append-nil taken
 
+named_more : (form : Form) (L : Standing → Standing → Type 0) (s0 : Standing) (lines more : List (List ℕ)) (text : List ℕ) (fault : LineStop) → Named form L 1 s0 lines text fault → Named form L 1 s0 (lines ++ more) text fault
+named_more form L s0 lines more text fault w = record {
+  before = w.before;
+  line = w.line;
+  after = w.after ++ more;
+  middle = w.middle;
+  lines_are = ap (λ (l : List (List ℕ)). l ++ more) w.lines_are ∙ append_assoc w.before (w.line ∷ w.after) more;
+  answered = w.answered;
+  fault_is = w.fault_is;
+  left = w.left;
+}
+
 ended_fault : (form : Form) (L : Standing → Standing → Type 0) (s0 : Standing) (taken rest : List ℕ) (lines : List (List ℕ)) (text : List ℕ) (fault : LineStop) → AreEnded lines taken rest → Named form L 1 s0 lines text fault → (answer_from form s0 (taken ++ rest)).fault ≡ Some fault
 ended_fault form L s0 taken rest lines text fault (inl e) w =
-    let w2 : Named form L 1 s0 (whole_from [] taken) text fault = rw e at w in
-    named_ran form L 1 s0 (lines_of (taken ++ rest)) text fault (named_along form L 1 s0 [] [] s0 (whole_from [] taken) (lines_from (rest_from [] taken) rest) (lines_of (taken ++ rest)) text fault (refl, refl) (lines-append taken [] rest) w2)
+    let all : lines_of (taken ++ rest) ≡ lines ++ lines_from (rest_from [] taken) rest = lines-append taken [] rest ∙ ap (λ (l : List (List ℕ)). l ++ lines_from (rest_from [] taken) rest) (sym e) in
+    rw all (named_ran form L 1 s0 (lines ++ lines_from (rest_from [] taken) rest) text fault (named_more form L s0 lines (lines_from (rest_from [] taken) rest) text fault w))
 ended_fault form L s0 taken rest lines text fault (inr (none, e)) w =
     let w2 : Named form L 1 s0 (lines_of taken) text fault = rw e at w in
     rw (at_end taken rest none) (named_ran form L 1 s0 (lines_of taken) text fault w2)
 
-untroubled_end : (form : Form) (L : Standing → Standing → Type 0) (s0 : Standing) (input taken rest text : List ℕ) (status : Status) → input ≡ taken ++ rest → Ends form s0 L taken rest status text → (answer_from form s0 input).fault ≡ None → length input ≤ most_bytes → (status ≡ Usage → ⊥) → (status ≡ ReadFault → ⊥) → (status ≡ WriteFault → ⊥) → (status ≡ KeepFault → ⊥) → (status ≡ Done) ⊎ (status ≡ NoMemory)
-untroubled_end form L s0 input taken rest text Done e h good short u r w k = inl refl
-untroubled_end form L s0 input taken rest text NoMemory e h good short u r w k = inr refl
-untroubled_end form L s0 input taken rest text Usage e h good short u r w k = absurd h
-untroubled_end form L s0 input taken rest text ReadFault e h good short u r w k = absurd (r refl)
-untroubled_end form L s0 input taken rest text WriteFault e h good short u r w k = absurd (w refl)
-untroubled_end form L s0 input taken rest text KeepFault e h good short u r w k = absurd (k refl)
-untroubled_end form L s0 input taken rest text BadStore e h good short u r w k = absurd h
-untroubled_end form L s0 input taken rest text (WrongStore is_empty) e h good short u r w k = absurd h
-untroubled_end form L s0 input taken rest text NotFound e h good short u r w k = absurd h
-untroubled_end form L s0 input taken rest text (NoPast base last) e h good short u r w k = absurd h
-untroubled_end form L s0 input taken rest text (BadInput n fault) e (most, inl (lines, ended, named)) good short u r w k =
+untroubled_end : (form : Form) (every : ℕ) (L : Standing → Standing → Type 0) (s0 : Standing) (input taken rest text : List ℕ) (status : Status) → input ≡ taken ++ rest → Ends form every s0 L taken rest status text → (answer_from form s0 input).fault ≡ None → length input ≤ most_bytes → (status ≡ Usage → ⊥) → (status ≡ ReadFault → ⊥) → (status ≡ WriteFault → ⊥) → (status ≡ KeepFault → ⊥) → (status ≡ Done) ⊎ (status ≡ NoMemory)
+untroubled_end form every L s0 input taken rest text Done e h good short u r w k = inl refl
+untroubled_end form every L s0 input taken rest text NoMemory e h good short u r w k = inr refl
+untroubled_end form every L s0 input taken rest text Usage e h good short u r w k = absurd h
+untroubled_end form every L s0 input taken rest text ReadFault e h good short u r w k = absurd (r refl)
+untroubled_end form every L s0 input taken rest text WriteFault e h good short u r w k = absurd (w refl)
+untroubled_end form every L s0 input taken rest text KeepFault e h good short u r w k = absurd (k refl)
+untroubled_end form every L s0 input taken rest text BadStore e h good short u r w k = absurd h
+untroubled_end form every L s0 input taken rest text (WrongStore is_empty) e h good short u r w k = absurd h
+untroubled_end form every L s0 input taken rest text NotFound e h good short u r w k = absurd h
+untroubled_end form every L s0 input taken rest text (NoPast base last) e h good short u r w k = absurd h
+untroubled_end form every L s0 input taken rest text (BadInput n fault) e (most, inl (lines, ended, named)) good short u r w k =
     let f : (answer_from form s0 input).fault ≡ Some (stops.BadInput n fault) = rw e (ended_fault form L s0 taken rest lines text (stops.BadInput n fault) ended named) in cc
-untroubled_end form L s0 input taken rest text (BadInput n fault) e (most, inr (none, lacking)) good short u r w k =
+untroubled_end form every L s0 input taken rest text (BadInput n fault) e (most, inr (none, lacking)) good short u r w k =
     let f : (answer_from form s0 input).fault ≡ Some (stops.BadInput n fault) = rw (e, at_end taken rest none) (lacking_ran form L 1 s0 (lines_of taken) text (stops.BadInput n fault) lacking) in cc
-untroubled_end form L s0 input taken rest text (Limit n Line) e h good short u r w k =
+untroubled_end form every L s0 input taken rest text (Limit n Line) e h good short u r w k =
     let f : (answer_from form s0 input).fault ≡ Some (stops.Long n) = rw e (named_ran form L 1 s0 (lines_of (taken ++ rest)) text (stops.Long n) (h.1 rest)) in cc
-untroubled_end form L s0 input taken rest text (Limit n (Ratio over)) e (most, lines, ended, named) good short u r w k =
+untroubled_end form every L s0 input taken rest text (Limit n (Ratio over)) e (most, lines, ended, named) good short u r w k =
     let f : (answer_from form s0 input).fault ≡ Some (stops.Ratio n over) = rw e (ended_fault form L s0 taken rest lines text (stops.Ratio n over) ended named) in cc
-untroubled_end form L s0 input taken rest text (Limit n (Bound over)) e h good short u r w k = absurd h
-untroubled_end form L s0 input taken rest text (Limit n Input) e h good short u r w k =
+untroubled_end form every L s0 input taken rest text (Limit n (Bound over)) e h good short u r w k = absurd h
+untroubled_end form every L s0 input taken rest text (Limit n Input) e h good short u r w k =
     let size : length input ≡ length h.bytes + length (h.byte ∷ []) + length rest = ap length (e ∙ ap (λ (t : List ℕ). t ++ rest) h.taken_is) ∙ length-append (h.bytes ++ h.byte ∷ []) rest ∙ ap (λ (m : ℕ). m + length rest) (length-append h.bytes (h.byte ∷ [])) in
     let full : length h.bytes ≡ most_bytes = h.full in
     absurd (omega arith)
 
-pub untroubled_run : (form : Form) (L : Standing → Standing → Type 0) (first : Standing) (left left' w w' : Option (List ℕ)) (status : Status) → RunEnds form first L left left' w w' status → IsUntroubled form first left → (status ≡ Usage → ⊥) → (status ≡ ReadFault → ⊥) → (status ≡ WriteFault → ⊥) → (status ≡ KeepFault → ⊥) → (status ≡ Done) ⊎ (status ≡ NoMemory)
-untroubled_run form L first left left' w w' status e calm u r wr k =
+pub untroubled_run : (form : Form) (every : ℕ) (L : Standing → Standing → Type 0) (first : Standing) (left left' w w' : Option (List ℕ)) (status : Status) → RunEnds form every first L left left' w w' status → IsUntroubled form first left → (status ≡ Usage → ⊥) → (status ≡ ReadFault → ⊥) → (status ≡ WriteFault → ⊥) → (status ≡ KeepFault → ⊥) → (status ≡ Done) ⊎ (status ≡ NoMemory)
+untroubled_run form every L first left left' w w' status e calm u r wr k =
     let told = e.3 calm.input calm.left_is in
-    untroubled_end form L first calm.input e.0 e.1 e.2 status told.0 e.5 calm.good calm.short u r wr k
+    untroubled_end form every L first calm.input e.0 e.1 e.2 status told.0 e.5 calm.good calm.short u r wr k
 
 -- ---- a run that has begun
-
-pub begun_by : (stop : LineStop) → HasBegun (status_of stop)
-begun_by (stops.BadInput n fault) = tt
-begun_by (stops.Long n) = tt
-begun_by (stops.Ratio n over) = tt
-begun_by stops.Write = tt
-begun_by stops.Keep = tt
-begun_by stops.NoMemory = tt
-
-pub begun_at_end : (stop : EndStop) → HasBegun (status_at_end stop)
-begun_at_end (ends.Line stop) = begun_by stop
-begun_at_end (ends.Lacking n fault) = tt
-begun_at_end ends.Report = tt
-begun_at_end ends.Flush = tt
-begun_at_end ends.NoMemory = tt
 
 pub begun_busy : (s : Status) → HasBegun s → s ≡ Usage → ⊥
 begun_busy s h e = subst HasBegun e h

@@ -30,5 +30,6 @@ pub mod StatingLemmas
 pub mod StopLemmas
 pub mod TakingLemmas
 pub mod TallyLemmas
+pub mod WaitLemmas
 pub mod WayLemmas
 pub mod WholeLemmas

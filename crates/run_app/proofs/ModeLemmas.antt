@@ -1,5 +1,5 @@
 -- How a run of each command ends.
-use Rattle.std.proofs.Common.{◌≡◌, ◌∙◌, ◌⊎◌, inl, inr, ap, sym, subst, refl, arith, ℕ, ◌≤◌, ◌&&◌, nat_le, Bool, true, false, true≢false, List, [], ◌∷◌, ◌++◌, append-nil, bytes_eq, codes, Option, Some, None, Result, Ok, Err, if◌then◌else◌, IsErrOf, IsSome, OnErr, OnOk, option_and_then, option_map}
+use Rattle.std.proofs.Common.{◌≡◌, ◌∙◌, ◌⊎◌, inl, inr, ap, sym, subst, refl, arith, ℕ, ◌<◌, ◌≤◌, ◌&&◌, nat_le, Bool, true, false, true≢false, List, [], ◌∷◌, ◌++◌, append-nil, bytes_eq, codes, Option, Some, None, Result, Ok, Err, if◌then◌else◌, IsErrOf, IsSome, OnErr, OnOk, option_and_then, option_map}
 use Rattle.std.specs.Prelude.{⊤}
 use Rattle.base_io.specs.{declared.outside.SinkFault.SinkFault, Faults.UnlessFailed, Outside.Rose, Rows.{Makes, Pair}}
 use Rattle.base_io.specs.declared.outside.SinkFault.TheVariants as sink
@@ -15,7 +15,7 @@ use Rattle.base_bech32.specs.declared.form.Form.{Form, TheVariants.{Hex, Bech32}
 use Rattle.run_words.specs.declared.mode.{Command.Command, Mode.Mode}
 use Rattle.run_words.specs.declared.mode.Mode.TheVariants.{Replay, Resume, Query, Tally, Check, Statement, Gen, Trial}
 use Rattle.run_words.specs.Questions.{address_asked, kind_asked}
-use Rattle.run_words.specs.Words.{alone, asking, at_height, begins_with_zero, behind_form, command_of, committing, count_of, generating, height_of, is_bech32, is_keep, is_past, keeping, kept_mode, mode_of, of_pair, past_of, plain, seed_of, with_input, with_word, with_words}
+use Rattle.run_words.specs.Words.{alone, asking, at_height, begins_with_zero, behind_form, command_of, committing, count_of, every_mode, every_of, generating, grouping, height_of, is_bech32, is_every, is_keep, is_past, keeping, kept_mode, mode_of, of_pair, past_of, plain, seed_of, with_input, with_word, with_words}
 use Rattle.line_json.specs.Addresses.{account_in, operator_asked}
 use Rattle.line_report.specs.declared.question.Query.{Query as Question}
 use Rattle.run_app.specs.declared.status.Status.{Status}
@@ -205,52 +205,82 @@ few_of_mode form (name ∷ what ∷ []) m e = few_with_word name what m e
 few_of_mode form (name ∷ first ∷ second ∷ []) m e = few_with_words form name first second m e
 few_of_mode form (name ∷ first ∷ second ∷ other ∷ others) m e = absurd cc
 
-abbrev FewOf : Option Command → Type 0
-FewOf None = Unit {0}
-FewOf (Some c) = HasFewBlocks c.mode
+-- commits are made at one block at least
+every_of_word : (b : Bool) (o : Option ℕ) (n : ℕ) → (if b then None else option_and_then (λ m. if nat_le 1 m && nat_le m 1000000 then Some m else None) o) ≡ Some n → 0 < n
+every_of_word true o n e = absurd cc
+every_of_word false None n e = absurd cc
+every_of_word false (Some m) n e = by (nat_le 1 m && nat_le m 1000000) refl e
+  where
+    by : (b : Bool) → (nat_le 1 m && nat_le m 1000000) ≡ b → (if b then Some m else None) ≡ Some n → 0 < n
+    by true t f = grind (arith, t, f)
+    by false t f = absurd cc
 
-few_plain : (form : Form) (o : Option Mode) (c : Command) → ((m : Mode) → o ≡ Some m → HasFewBlocks m) → plain form o ≡ Some c → HasFewBlocks c.mode
-few_plain form (Some m) c few e = subst FewOf e (few m refl)
-few_plain form None c few e = absurd cc
+every_is_some : (word : List ℕ) (n : ℕ) → every_of word ≡ Some n → 0 < n
+every_is_some word n e = every_of_word (begins_with_zero word) (number_of 7 word) n e
 
-few_keeping : (form : Form) (o : Option Mode) (c : Command) → ((m : Mode) → o ≡ Some m → HasFewBlocks m) → keeping form o ≡ Some c → HasFewBlocks c.mode
-few_keeping form (Some m) c few e = subst FewOf e (few m refl)
-few_keeping form None c few e = absurd cc
+-- a command that generates few blocks, and commits at one block at least
+pub record IsFit (c : Command) : Type 0 where
+  pub few : HasFewBlocks c.mode
+  pub some : 0 < c.every
 
-few_at_height : (form : Form) (height : Option ℕ) (o : Option Mode) (c : Command) → ((m : Mode) → o ≡ Some m → HasFewBlocks m) → at_height form height o ≡ Some c → HasFewBlocks c.mode
-few_at_height form (Some height) (Some m) c few e = subst FewOf e (few m refl)
-few_at_height form (Some height) None c few e = absurd cc
-few_at_height form None o c few e = absurd cc
+abbrev FitOf : Option Command → Type 0
+FitOf None = Unit {0}
+FitOf (Some c) = IsFit c
+
+fit_plain : (form : Form) (o : Option Mode) (c : Command) → ((m : Mode) → o ≡ Some m → HasFewBlocks m) → plain form o ≡ Some c → IsFit c
+fit_plain form (Some m) c few e = subst FitOf e (record { few = few m refl; some = omega arith })
+fit_plain form None c few e = absurd cc
+
+fit_keeping : (form : Form) (o : Option Mode) (c : Command) → ((m : Mode) → o ≡ Some m → HasFewBlocks m) → keeping form o ≡ Some c → IsFit c
+fit_keeping form (Some m) c few e = subst FitOf e (record { few = few m refl; some = omega arith })
+fit_keeping form None c few e = absurd cc
+
+fit_grouping : (form : Form) (every : Option ℕ) (o : Option Mode) (c : Command) → ((n : ℕ) → every ≡ Some n → 0 < n) → ((m : Mode) → o ≡ Some m → HasFewBlocks m) → grouping form every o ≡ Some c → IsFit c
+fit_grouping form (Some n) (Some m) c some few e = subst FitOf e (record { few = few m refl; some = some n refl })
+fit_grouping form (Some n) None c some few e = absurd cc
+fit_grouping form None o c some few e = absurd cc
+
+fit_at_height : (form : Form) (height : Option ℕ) (o : Option Mode) (c : Command) → ((m : Mode) → o ≡ Some m → HasFewBlocks m) → at_height form height o ≡ Some c → IsFit c
+fit_at_height form (Some height) (Some m) c few e = subst FitOf e (record { few = few m refl; some = omega arith })
+fit_at_height form (Some height) None c few e = absurd cc
+fit_at_height form None o c few e = absurd cc
 
 few_kept : (words : List (List ℕ)) (m : Mode) → kept_mode words ≡ Some m → HasFewBlocks m
 few_kept [] m e = absurd cc
 few_kept (name ∷ []) m e = few_committing name m e
 few_kept (name ∷ other ∷ others) m e = absurd cc
 
-few_past : (form : Form) (words : List (List ℕ)) (c : Command) → past_of form words ≡ Some c → HasFewBlocks c.mode
-few_past form [] c e = absurd cc
-few_past form (height ∷ []) c e = absurd cc
-few_past form (height ∷ name ∷ []) c e = absurd cc
-few_past form (height ∷ name ∷ what ∷ []) c e = few_at_height form (height_of height) (with_word name what) c (few_with_word name what) e
-few_past form (height ∷ name ∷ what ∷ text ∷ []) c e = few_at_height form (height_of height) (asking form name what text) c (few_asking form name what text) e
-few_past form (height ∷ name ∷ what ∷ text ∷ other ∷ others) c e = absurd cc
+fit_every : (form : Form) (words : List (List ℕ)) (c : Command) → every_mode form words ≡ Some c → IsFit c
+fit_every form [] c e = absurd cc
+fit_every form (every ∷ []) c e = absurd cc
+fit_every form (every ∷ name ∷ []) c e = fit_grouping form (every_of every) (committing name) c (every_is_some every) (few_committing name) e
+fit_every form (every ∷ name ∷ other ∷ others) c e = absurd cc
 
-few_behind : (form : Form) (words : List (List ℕ)) (c : Command) → behind_form form words ≡ Some c → HasFewBlocks c.mode
-few_behind form [] c e = absurd cc
-few_behind form (word ∷ words) c e = by (is_keep word) (is_past word) e
-  where
-    by : (b d : Bool) → (if b then keeping form (kept_mode words) else (if d then past_of form words else plain form (mode_of form (word ∷ words)))) ≡ Some c → HasFewBlocks c.mode
-    by true d f = few_keeping form (kept_mode words) c (few_kept words) f
-    by false true f = few_past form words c f
-    by false false f = few_plain form (mode_of form (word ∷ words)) c (few_of_mode form (word ∷ words)) f
+fit_past : (form : Form) (words : List (List ℕ)) (c : Command) → past_of form words ≡ Some c → IsFit c
+fit_past form [] c e = absurd cc
+fit_past form (height ∷ []) c e = absurd cc
+fit_past form (height ∷ name ∷ []) c e = absurd cc
+fit_past form (height ∷ name ∷ what ∷ []) c e = fit_at_height form (height_of height) (with_word name what) c (few_with_word name what) e
+fit_past form (height ∷ name ∷ what ∷ text ∷ []) c e = fit_at_height form (height_of height) (asking form name what text) c (few_asking form name what text) e
+fit_past form (height ∷ name ∷ what ∷ text ∷ other ∷ others) c e = absurd cc
 
-pub few_blocks : (words : List (List ℕ)) (c : Command) → command_of words ≡ Some c → HasFewBlocks c.mode
-few_blocks [] c e = absurd cc
-few_blocks (word ∷ words) c e = by (is_bech32 word) e
+fit_behind : (form : Form) (words : List (List ℕ)) (c : Command) → behind_form form words ≡ Some c → IsFit c
+fit_behind form [] c e = absurd cc
+fit_behind form (word ∷ words) c e = by (is_keep word) (is_every word) (is_past word) e
   where
-    by : (b : Bool) → (if b then behind_form Bech32 words else behind_form Hex (word ∷ words)) ≡ Some c → HasFewBlocks c.mode
-    by true f = few_behind Bech32 words c f
-    by false f = few_behind Hex (word ∷ words) c f
+    by : (b d g : Bool) → (if b then keeping form (kept_mode words) else (if d then every_mode form words else (if g then past_of form words else plain form (mode_of form (word ∷ words))))) ≡ Some c → IsFit c
+    by true d g f = fit_keeping form (kept_mode words) c (few_kept words) f
+    by false true g f = fit_every form words c f
+    by false false true f = fit_past form words c f
+    by false false false f = fit_plain form (mode_of form (word ∷ words)) c (few_of_mode form (word ∷ words)) f
+
+pub fit_command : (words : List (List ℕ)) (c : Command) → command_of words ≡ Some c → IsFit c
+fit_command [] c e = absurd cc
+fit_command (word ∷ words) c e = by (is_bech32 word) e
+  where
+    by : (b : Bool) → (if b then behind_form Bech32 words else behind_form Hex (word ∷ words)) ≡ Some c → IsFit c
+    by true f = fit_behind Bech32 words c f
+    by false f = fit_behind Hex (word ∷ words) c f
 
 -- ---- runs that do not begin
 

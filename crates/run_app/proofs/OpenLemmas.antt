@@ -42,20 +42,20 @@ mode_unopened unopened.NoMemory (Gen seed count) left w commits never = absurd c
 mode_unopened unopened.NoMemory (Trial seed count) left w commits never = absurd commits
 
 -- a run over a keeper that keeps nothing does not end on a bad store
-pub never_bad_store : (form : Form) (m : Mode) (left left' w w' : Option (List ℕ)) (rows rows' : Option (List Pair)) (honest' : Type 0) (leaves leaves' : List Pair → Type 0) (s : Status) → IsCommitting m → ModeEnds form m (source_told left left') (sink_told w w') (keeper_told rows rows' honest' leaves leaves') s
+pub never_bad_store : (form : Form) (every : ℕ) (m : Mode) (left left' w w' : Option (List ℕ)) (rows rows' : Option (List Pair)) (honest' : Type 0) (leaves leaves' : List Pair → Type 0) (s : Status) → IsCommitting m → ModeEnds form every m (source_told left left') (sink_told w w') (keeper_told rows rows' honest' leaves leaves') s
     → ModeUnkept m (source_told left left') (sink_told w w') s → s ≡ BadStore → ⊥
-never_bad_store form Replay left left' w w' rows rows' honest' leaves leaves' s commits ends unkept e = by (subst (λ (t : Status). ModeEnds form Replay (source_told left left') (sink_told w w') (keeper_told rows rows' honest' leaves leaves') t) e ends)
+never_bad_store form every Replay left left' w w' rows rows' honest' leaves leaves' s commits ends unkept e = by (subst (λ (t : Status). ModeEnds form every Replay (source_told left left') (sink_told w w') (keeper_told rows rows' honest' leaves leaves') t) e ends)
   where
-    by : ModeEnds form Replay (source_told left left') (sink_told w w') (keeper_told rows rows' honest' leaves leaves') BadStore → ⊥
+    by : ModeEnds form every Replay (source_told left left') (sink_told w w') (keeper_told rows rows' honest' leaves leaves') BadStore → ⊥
     by (inl r) = r.5
     by (inr u) = u.0
-never_bad_store form Resume left left' w w' rows rows' honest' leaves leaves' s commits ends unkept e = (subst (λ (t : Status). ModeUnkept Resume (source_told left left') (sink_told w w') t) e unkept).0
-never_bad_store form (Query what) left left' w w' rows rows' honest' leaves leaves' s commits ends unkept e = commits
-never_bad_store form Tally left left' w w' rows rows' honest' leaves leaves' s commits ends unkept e = commits
-never_bad_store form Check left left' w w' rows rows' honest' leaves leaves' s commits ends unkept e = commits
-never_bad_store form (Statement delegator operator) left left' w w' rows rows' honest' leaves leaves' s commits ends unkept e = commits
-never_bad_store form (Gen seed count) left left' w w' rows rows' honest' leaves leaves' s commits ends unkept e = commits
-never_bad_store form (Trial seed count) left left' w w' rows rows' honest' leaves leaves' s commits ends unkept e = commits
+never_bad_store form every Resume left left' w w' rows rows' honest' leaves leaves' s commits ends unkept e = (subst (λ (t : Status). ModeUnkept Resume (source_told left left') (sink_told w w') t) e unkept).0
+never_bad_store form every (Query what) left left' w w' rows rows' honest' leaves leaves' s commits ends unkept e = commits
+never_bad_store form every Tally left left' w w' rows rows' honest' leaves leaves' s commits ends unkept e = commits
+never_bad_store form every Check left left' w w' rows rows' honest' leaves leaves' s commits ends unkept e = commits
+never_bad_store form every (Statement delegator operator) left left' w w' rows rows' honest' leaves leaves' s commits ends unkept e = commits
+never_bad_store form every (Gen seed count) left left' w w' rows rows' honest' leaves leaves' s commits ends unkept e = commits
+never_bad_store form every (Trial seed count) left left' w w' rows rows' honest' leaves leaves' s commits ends unkept e = commits
 
 -- ---- by which statuses
 

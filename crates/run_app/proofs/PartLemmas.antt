@@ -1,18 +1,22 @@
 -- One line, one end of a line, one piece of the input, and the end of the input.
-use Rattle.std.proofs.Common.{inl, inr, ◌≡◌, ◌∙◌, ℕ, ◌+◌, ◌<◌, ◌≤◌, Bool, true, false, ◌==◌, cond, nat_lt, lt-ltb, List, [], ◌∷◌, ◌++◌, length, take, drop, slice_index, Option, Some, None, Result, Ok, Err, OnOk, IfErr, IfSome, IfNone, refl, sym, ap, subst, append_assoc, arith, add-zero, length-append, append-nil, take-append-drop}
+use Rattle.std.proofs.Common.{inl, inr, ◌≡◌, ◌∙◌, ℕ, ◌+◌, ◌<◌, ◌≤◌, Bool, true, false, ◌==◌, cond, lt-ltb, List, [], ◌∷◌, ◌++◌, length, take, drop, slice_index, Option, Some, None, Result, Ok, Err, IfErr, IfSome, IfNone, OnOk, refl, sym, ap, subst, append_assoc, arith, length-append, append-nil, take-append-drop}
 use Rattle.std.specs.Prelude.{⊤}
 use Rattle.memchr.specs.Find.{IsFirstByte, is_byte}
 use Rattle.base_bech32.specs.declared.form.Form.{Form}
-use Rattle.base_io.specs.{Outside.{IsPart, Rose}, Calls.AddsPart}
-use Rattle.line_json.specs.Genesis.{genesis_of}
+use Rattle.base_io.specs.{Outside.Rose, Rows.Pair}
+use Rattle.chain_whole.specs.Chained.{Chained}
 use Rattle.run_app.specs.declared.status.LineStop.{LineStop, TheVariants.{BadInput, Long, Ratio, Write, Keep, NoMemory}}
-use Rattle.run_app.specs.{declared.status.EndStop.EndStop, Lines.{whole_from, rest_from, last_line, lines_from}}
-use Rattle.run_app.specs.Machine.{Standing, Answer, longest, line_answer, genesis_answer}
-use Rattle.run_app.specs.Runs.{before, ran_from, AreAnswered, Named, Wrote, Unkept, Held, Reported, Finished}
-use Rattle.run_app.specs.Parts.{PartEnds, PartStops, Fed, Grows, Took, HasNoEnd, NotAnswered, NotExtended, lines_after, FinishEnds, FinishStops, Finishes, IsOfReport}
-use Rattle.run_app.proofs.CutLemmas.{whole_none, rest_none, whole_one, rest_one, no_end_before, lines-append}
-use Rattle.run_app.proofs.RunLemmas.{ran-append, answered-append, stops_along, fed-append, fed_stops, fed_number, grows_on, no_growth}
+use Rattle.run_app.specs.declared.status.{EndStop.EndStop, InputFault.InputFault, Status.Status}
+use Rattle.run_app.specs.declared.status.Status.TheVariants as status
 use Rattle.run_app.specs.declared.status.EndStop.TheVariants as ends
+use Rattle.run_app.specs.Kept.{Began, LeftIn}
+use Rattle.run_app.specs.Lines.{whole_from, rest_from, last_line, lines_from, lines_of}
+use Rattle.run_app.specs.{Machine.{Standing, longest, line_answer}, Outcome.{Ends, most_bytes}}
+use Rattle.run_app.specs.Runs.{before, ran_from, AreAnswered, Answered, Held, Lacking, Reported, Finished}
+use Rattle.run_app.specs.Parts.{EndsSo, Fed, FinishAs, FinishStatus, FinishStops, Finishes, Grows, HasNoEnd, IsAt, IsFault, Loses, NotExtended, PartStops, Stands, UnlessNoMemory, status_at_end}
+use Rattle.run_app.proofs.CutLemmas.{whole-append, rest-append, lines-append, whole_none, rest_none, whole_one, rest_one, whole_no_longer, no_end_before}
+use Rattle.run_app.proofs.RunLemmas.{ran-append, answered-append, grows_on, no_growth}
+use Rattle.run_app.proofs.WaitLemmas.{loses_more, stands_lost}
 
 -- ---- the first end of a line
 
@@ -32,102 +36,206 @@ pub found_none : (bytes : List ℕ) (r : Option ℕ) → IsFirstByte (is_byte 10
 found_none bytes None h = subst HasNoEnd (take_whole bytes) (no_end_before (length bytes) bytes (omega arith) (λ k lt. ne_true (slice_index bytes k == 10) (h k (omega arith) lt)))
 found_none bytes (Some i) h = tt
 
--- ---- one line
-
-first_named : (form : Form) (L : Standing → Standing → Type 0) (n : ℕ) (s : Standing) (line : List ℕ) (after : List (List ℕ)) (fault : LineStop) → line_answer form n s line ≡ Err fault → L s s → Named form L n s (line ∷ after) [] fault
-first_named form L n s line after fault h left = record { before = []; line = line; after = after; middle = s; lines_are = refl; answered = (refl, refl); fault_is = rw (add-zero n) h; left = left }
-
--- nothing was written
-pub none_held : (form : Form) (L : Standing → Standing → Type 0) (n : ℕ) (s : Standing) (lines : List (List ℕ)) → L s s → Held form L n s lines []
-none_held form L n s lines left = record { before = []; after = lines; middle = s; lines_are = refl; answered = (refl, refl); left = left }
-
-first_unkept : (form : Form) (L : Standing → Standing → Type 0) (n : ℕ) (s : Standing) (line : List ℕ) (a : Answer) → line_answer form n s line ≡ Ok a → L s a.standing → Unkept form L n s (line ∷ []) []
-first_unkept form L n s line a h left = record { before = []; line = line; after = []; middle = s; answer = a; lines_are = refl; answered = (refl, refl); answer_is = rw (add-zero n) h; left = left }
-
-pub answer_stops : (form : Form) (L : Standing → Standing → Type 0) (n : ℕ) (s : Standing) (line : List ℕ) (w : Option (List ℕ)) (stop : LineStop) → NotAnswered L stop s (line_answer form n s line) → PartStops form L n s (λ (more : List (List ℕ)). line ∷ more) (line ∷ []) w w stop
-answer_stops form L n s line w (BadInput m fault) h = ([], no_growth w, first_named form L n s line [] (BadInput m fault) h.0 h.1)
-answer_stops form L n s line w (Long m) h = ([], no_growth w, λ more. first_named form L n s line more (Long m) h.0 h.1)
-answer_stops form L n s line w (Ratio m over) h = ([], no_growth w, first_named form L n s line [] (Ratio m over) h.0 h.1)
-answer_stops form L n s line w Write h = absurd h
-answer_stops form L n s line w Keep h = ([], no_growth w, first_unkept form L n s line h.0 h.1 h.2)
-answer_stops form L n s line w NoMemory (inl h) = ([], no_growth w, inr (inl (none_held form L n s (line ∷ []) h)))
-answer_stops form L n s line w NoMemory (inr h) = ([], no_growth w, inr (inr (first_unkept form L n s line h.0 h.1 h.2)))
-
-wrote_first : (form : Form) (L : Standing → Standing → Type 0) (n : ℕ) (s : Standing) (line : List ℕ) (a : Answer) (front : List ℕ) → line_answer form n s line ≡ Ok a → L a.standing a.standing → IsPart front a.text → Wrote form L n s (line ∷ []) front
-wrote_first form L n s line a front h left part = record { before = []; line = line; after = []; middle = s; done = []; answer = a; front = front; lines_are = refl; answered = (refl, refl); answer_is = rw (add-zero n) h; part = part; text_is = refl; left = left }
-
-pub write_stops : (form : Form) (L : Standing → Standing → Type 0) (n : ℕ) (s : Standing) (line : List ℕ) (a : Answer) (w w' : Option (List ℕ)) → line_answer form n s line ≡ Ok a → L a.standing a.standing → AddsPart w w' a.text → PartStops form L n s (λ (more : List (List ℕ)). line ∷ more) (line ∷ []) w w' Write
-write_stops form L n s line a w w' h left adds = (adds.0, adds.2, wrote_first form L n s line a adds.0 h left adds.1)
-
-pub full_stops : (form : Form) (L : Standing → Standing → Type 0) (n : ℕ) (s : Standing) (line : List ℕ) (a : Answer) (w w' : Option (List ℕ)) → line_answer form n s line ≡ Ok a → L a.standing a.standing → AddsPart w w' a.text → PartStops form L n s (λ (more : List (List ℕ)). line ∷ more) (line ∷ []) w w' NoMemory
-full_stops form L n s line a w w' h left adds = (adds.0, adds.2, inl (wrote_first form L n s line a adds.0 h left adds.1))
-
 -- ---- a line that is too long
 
 pub answer_long : (form : Form) (n : ℕ) (s : Standing) (line : List ℕ) → longest < length line → line_answer form n s line ≡ Err (Long n)
 unfolding line_answer
 answer_long form n s line h = rw (lt-ltb longest (length line) h) refl
 
-long_step : (form : Form) (L : Standing → Standing → Type 0) (test : Bool) (s : Standing) (line more : List ℕ) (b n : ℕ) → L s s → longest < length line → Named form L n s (lines_from (line ++ b ∷ []) more) [] (Long n)
-    → Named form L n s (cond test (line ∷ whole_from [] more) (whole_from (line ++ b ∷ []) more) ++ last_line (cond test (rest_from [] more) (rest_from (line ++ b ∷ []) more))) [] (Long n)
-long_step form L true s line more b n left h k = first_named form L n s line _ (Long n) (answer_long form n s line h) left
-long_step form L false s line more b n left h k = k
+-- The line that has begun, which follows others, is too long whatever comes behind it.
+long_step : (form : Form) (test : Bool) (before : List (List ℕ)) (end : Standing) (line more : List ℕ) (b : ℕ) → longest < length line → IsAt form before end (before ++ lines_from (line ++ b ∷ []) more) (Long (1 + length before))
+    → IsAt form before end (before ++ (cond test (line ∷ whole_from [] more) (whole_from (line ++ b ∷ []) more) ++ last_line (cond test (rest_from [] more) (rest_from (line ++ b ∷ []) more)))) (Long (1 + length before))
+long_step form true before end line more b h k = record { line = line; after = whole_from [] more ++ last_line (rest_from [] more); lines_are = refl; fault_is = answer_long form (1 + length before) end line h }
+long_step form false before end line more b h k = k
 
-pub too_long : (form : Form) (L : Standing → Standing → Type 0) (more line : List ℕ) (n : ℕ) (s : Standing) → L s s → longest < length line → Named form L n s (lines_from line more) [] (Long n)
-too_long form L [] [] n s left h = absurd (omega arith)
-too_long form L [] (x ∷ line) n s left h = first_named form L n s (x ∷ line) [] (Long n) (answer_long form n s (x ∷ line) h) left
-too_long form L (b ∷ more) line n s left h = long_step form L (b == 10) s line more b n left h (too_long form L more (line ++ b ∷ []) n s left (rw (length-append line (b ∷ [])) (omega arith)))
+pub too_long : (form : Form) (before : List (List ℕ)) (end : Standing) (more line : List ℕ) → longest < length line → IsAt form before end (before ++ lines_from line more) (Long (1 + length before))
+too_long form before end [] [] h = absurd (omega (arith, h))
+too_long form before end [] (x ∷ line) h = record { line = x ∷ line; after = []; lines_are = refl; fault_is = answer_long form (1 + length before) end (x ∷ line) h }
+too_long form before end (b ∷ more) line h =
+    long_step form (b == 10) before end line more b h (too_long form before end more (line ++ b ∷ []) (rw (length-append line (b ∷ [])) (omega (arith, h))))
 
--- bytes that make the line too long, whatever comes behind them
-pub extend_stops : (form : Form) (L : Standing → Standing → Type 0) (n : ℕ) (s : Standing) (line bytes behind : List ℕ) (w : Option (List ℕ)) (stop : LineStop) → L s s → HasNoEnd bytes → NotExtended stop n line bytes → PartStops form L n s (lines_after line (bytes ++ behind)) (whole_from line (bytes ++ behind)) w w stop
-extend_stops form L n s line bytes behind w (BadInput m fault) left none h = absurd h
-extend_stops form L n s line bytes behind w (Long m) left none h = (
-  [],
-  no_growth w,
-  λ more. rw h.0 (rw (append_assoc bytes behind more, lines-append bytes line (behind ++ more), whole_none bytes line none, rest_none bytes line none) (too_long form L (behind ++ more) (line ++ bytes) n s left h.1)),
+-- the same by its number, of the bytes that were taken
+pub long_at : (form : Form) (taken bytes : List ℕ) (end : Standing) (line : List ℕ) (n m : ℕ) → m ≡ n → n ≡ 1 + length (whole_from [] taken) → line ≡ rest_from [] taken → HasNoEnd bytes → longest < length (line ++ bytes)
+    → (more : List ℕ) → IsAt form (whole_from [] taken) end (lines_of ((taken ++ bytes) ++ more)) (Long m)
+long_at form taken bytes end line n m same number line_is none long more =
+    let before : List (List ℕ) = whole_from [] taken in
+    let at : IsAt form before end (before ++ lines_from (line ++ bytes) more) (Long (1 + length before)) = too_long form before end more (line ++ bytes) long in
+    let rest : lines_from line (bytes ++ more) ≡ lines_from (line ++ bytes) more = lines-append bytes line more ∙ rw (whole_none bytes line none, rest_none bytes line none) refl in
+    let all : lines_of ((taken ++ bytes) ++ more) ≡ before ++ lines_from (line ++ bytes) more =
+    ap lines_of (append_assoc taken bytes more) ∙ lines-append taken [] (bytes ++ more) ∙ ap (λ (l : List ℕ). before ++ lines_from l (bytes ++ more)) (sym line_is) ∙ ap (λ (l : List (List ℕ)). before ++ l) rest in
+    rw (same, number, all) at
+
+-- ---- a line that has a fault
+
+-- a fault of the line is why the run stops there
+pub fault_stops : (form : Form) (every : ℕ) (first : Standing) (L : Standing → Standing → Type 0) (W : List (List ℕ) → Standing → Type 0) (lines : List (List ℕ)) (end : Standing) (line : List ℕ) (n : ℕ) (from w : Option (List ℕ)) (why : LineStop) → n ≡ 1 + length lines → IsFault why (line_answer form n end line)
+    → UnlessNoMemory why (W lines end) → Loses form every first L (lines ++ line ∷ []) from w NoMemory → PartStops form every first L W (λ (more : List (List ℕ)). lines ++ line ∷ more) (lines ++ line ∷ []) from w why
+fault_stops form every first L W lines end line n from w (BadInput m fault) number of stands lost = (lines, end, stands, record { line = line; after = []; lines_are = refl; fault_is = rw number at of })
+fault_stops form every first L W lines end line n from w (Ratio m over) number of stands lost = (lines, end, stands, record { line = line; after = []; lines_are = refl; fault_is = rw number at of })
+fault_stops form every first L W lines end line n from w (Long m) number of stands lost = absurd of
+fault_stops form every first L W lines end line n from w Write number of stands lost = absurd of
+fault_stops form every first L W lines end line n from w Keep number of stands lost = absurd of
+fault_stops form every first L W lines end line n from w NoMemory number of stands lost = lost
+
+-- one that is over its limit
+pub long_stops : (form : Form) (every : ℕ) (first : Standing) (L : Standing → Standing → Type 0) (W : List (List ℕ) → Standing → Type 0) (lines : List (List ℕ)) (end : Standing) (line : List ℕ) (n : ℕ) (from w : Option (List ℕ)) → n ≡ 1 + length lines → longest < length line → W lines end
+    → PartStops form every first L W (λ (more : List (List ℕ)). lines ++ line ∷ more) (lines ++ line ∷ []) from w (Long n)
+long_stops form every first L W lines end line n from w number long stands = (
+  lines,
+  line ∷ [],
+  end,
+  stands,
+  refl,
+  λ more. record { line = line; after = more; lines_are = refl; fault_is = rw number (answer_long form (1 + length lines) end line long) },
 )
-extend_stops form L n s line bytes behind w (Ratio m over) left none h = absurd h
-extend_stops form L n s line bytes behind w Write left none h = absurd h
-extend_stops form L n s line bytes behind w Keep left none h = absurd h
-extend_stops form L n s line bytes behind w NoMemory left none h = ([], no_growth w, inr (inl (none_held form L n s (whole_from line (bytes ++ behind)) left)))
+
+-- where lines are lost
+pub lost_stops : (form : Form) (every : ℕ) (first : Standing) {X : Type 0} (L : Standing → Standing → Type 0) (W : List (List ℕ) → Standing → Type 0) (all : X → List (List ℕ)) (ended : List (List ℕ)) (from w : Option (List ℕ)) (why : LineStop) → Loses form every first L ended from w why → PartStops form every first L W all ended from w why
+lost_stops form every first L W all ended from w Write h = h
+lost_stops form every first L W all ended from w Keep h = h
+lost_stops form every first L W all ended from w NoMemory h = h
+lost_stops form every first L W all ended from w (BadInput m fault) h = absurd h
+lost_stops form every first L W all ended from w (Long m) h = absurd h
+lost_stops form every first L W all ended from w (Ratio m over) h = absurd h
+
+-- ---- the stop of a part is the stop of more
+
+at_more : (form : Form) (before : List (List ℕ)) (end : Standing) (ended more : List (List ℕ)) (fault : LineStop) → IsAt form before end ended fault → IsAt form before end (ended ++ more) fault
+at_more form before end ended more fault a = record { line = a.line; after = a.after ++ more; lines_are = ap (λ (l : List (List ℕ)). l ++ more) a.lines_are ∙ append_assoc before (a.line ∷ a.after) more; fault_is = a.fault_is }
+
+pub stops_more : (form : Form) (every : ℕ) (first : Standing) {X Y : Type 0} (L : Standing → Standing → Type 0) (W : List (List ℕ) → Standing → Type 0) (all : X → List (List ℕ)) (all' : Y → List (List ℕ)) (f : Y → X) (ended more ended' : List (List ℕ)) (from w : Option (List ℕ)) (why : LineStop)
+    → ((y : Y) → all' y ≡ all (f y)) → ended' ≡ ended ++ more → PartStops form every first L W all ended from w why → PartStops form every first L W all' ended' from w why
+stops_more form every first L W all all' f ended more ended' from w (BadInput m fault) same e h = (h.0, h.1, h.2, rw e (at_more form h.0 h.1 ended more (BadInput m fault) h.3))
+stops_more form every first L W all all' f ended more ended' from w (Ratio m over) same e h = (h.0, h.1, h.2, rw e (at_more form h.0 h.1 ended more (Ratio m over) h.3))
+stops_more form every first L W all all' f ended more ended' from w (Long m) same e h = (
+  h.0,
+  h.1 ++ more,
+  h.2,
+  h.3,
+  e ∙ ap (λ (l : List (List ℕ)). l ++ more) h.4 ∙ append_assoc h.0 h.1 more,
+  λ y. rw (same y) (h.5 (f y)),
+)
+stops_more form every first L W all all' f ended more ended' from w Write same e h = rw e (loses_more form every first L ended more from w Write h)
+stops_more form every first L W all all' f ended more ended' from w Keep same e h = rw e (loses_more form every first L ended more from w Keep h)
+stops_more form every first L W all all' f ended more ended' from w NoMemory same e h = rw e (loses_more form every first L ended more from w NoMemory h)
 
 -- ---- the end of a line
 
-pub line_stops : (form : Form) (L : Standing → Standing → Type 0) (n : ℕ) (s : Standing) (line bytes : List ℕ) (w w' : Option (List ℕ)) (stop : LineStop) → HasNoEnd bytes → PartStops form L n s (λ (more : List (List ℕ)). (line ++ bytes) ∷ more) ((line ++ bytes) ∷ []) w w' stop
-    → PartStops form L n s (lines_after line (bytes ++ 10 ∷ [])) (whole_from line (bytes ++ 10 ∷ [])) w w' stop
-line_stops form L n s line bytes w w' stop none stops =
-    stops_along form L n n s [] [] s (λ (more : List (List ℕ)). (line ++ bytes) ∷ more) (lines_after line (bytes ++ 10 ∷ [])) (λ more. lines_from [] more) ((line ++ bytes) ∷ []) [] _ w w w' stop (refl, refl) (sym (add-zero n))
-    (λ more. lines-append (bytes ++ 10 ∷ []) line more ∙ rw (whole_one bytes line none, rest_one bytes line none) refl) (whole_one bytes line none) (no_growth w) stops
+-- bytes that are not added to the line stop the run
+pub extend_stops : (form : Form) (every : ℕ) (b : Began) (taken bytes behind : List ℕ) (end : Standing) (n : ℕ) (line : List ℕ) (chain : Option Chained) (waiting : ℕ) (held : List ℕ) (from w : Option (List ℕ)) (told : Option (List Pair)) (honest : Type 0) (leaves : List Pair → Type 0) (why : LineStop)
+    → Fed form every b taken end n line chain waiting held from w told honest leaves → HasNoEnd bytes → NotExtended why n line bytes
+    → PartStops form every b.first (LeftIn b told honest leaves) (λ lines last. Stands form every b lines last n chain waiting held from w told honest leaves) (λ (more : List ℕ). lines_of ((taken ++ (bytes ++ behind)) ++ more)) (whole_from [] (taken ++ (bytes ++ behind))) from w why
+extend_stops form every b taken bytes behind end n line chain waiting held from w told honest leaves (Long m) k none h = (
+  whole_from [] taken,
+  whole_from (rest_from [] taken) (bytes ++ behind),
+  end,
+  k.stands,
+  whole-append taken [] (bytes ++ behind),
+  λ more. rw (ap (λ (t : List ℕ). lines_of (t ++ more)) (sym (append_assoc taken bytes behind)) ∙ ap lines_of (append_assoc (taken ++ bytes) behind more))
+      (long_at form taken bytes end line n m h.0 k.stands.number_is k.line_is none h.1 (behind ++ more)),
+)
+extend_stops form every b taken bytes behind end n line chain waiting held from w told honest leaves NoMemory k none h =
+    rw (whole-append taken [] (bytes ++ behind)) (stands_lost form every b (whole_from [] taken) end n chain waiting held from w told honest leaves (whole_from (rest_from [] taken) (bytes ++ behind)) k.stands)
+extend_stops form every b taken bytes behind end n line chain waiting held from w told honest leaves (BadInput m fault) k none h = absurd h
+extend_stops form every b taken bytes behind end n line chain waiting held from w told honest leaves (Ratio m over) k none h = absurd h
+extend_stops form every b taken bytes behind end n line chain waiting held from w told honest leaves Write k none h = absurd h
+extend_stops form every b taken bytes behind end n line chain waiting held from w told honest leaves Keep k none h = absurd h
 
-pub line_fed : (form : Form) (n : ℕ) (s s' : Standing) (line bytes : List ℕ) (w w' : Option (List ℕ)) → HasNoEnd bytes → Took form n s (line ++ bytes) s' w w' → Fed form n s line (bytes ++ 10 ∷ []) (n + 1) s' [] w w'
-line_fed form n s s' line bytes w w' none took = record {
-  text = took.0;
-  number = rw (whole_one bytes line none) refl;
-  line_is = sym (rest_one bytes line none);
-  answered = rw (whole_one bytes line none) (record { text = took.0; standing = s' }, [], took.1, sym (append-nil took.0), (refl, refl));
-  short = omega arith;
-  grows = took.2;
-}
+-- the lines that ended, with that which ends now
+ended_now : (taken bytes line : List ℕ) → line ≡ rest_from [] taken ++ bytes → HasNoEnd bytes → whole_from [] (taken ++ (bytes ++ 10 ∷ [])) ≡ whole_from [] taken ++ line ∷ []
+ended_now taken bytes line is none = whole-append taken [] (bytes ++ 10 ∷ []) ∙ ap (λ (l : List (List ℕ)). whole_from [] taken ++ l) (whole_one bytes (rest_from [] taken) none ∙ ap (λ (l : List ℕ). l ∷ []) (sym is))
 
--- bytes without an end
-pub bytes_fed : (form : Form) (n : ℕ) (s : Standing) (line bytes : List ℕ) (w : Option (List ℕ)) → HasNoEnd bytes → length (line ++ bytes) ≤ longest → Fed form n s line bytes n s (line ++ bytes) w w
-bytes_fed form n s line bytes w none short = record {
-  text = [];
-  number = rw (whole_none bytes line none) (sym (add-zero n));
-  line_is = sym (rest_none bytes line none);
-  answered = rw (whole_none bytes line none) (refl, refl);
-  short = short;
-  grows = no_growth w;
-}
+-- and all there will be
+all_now : (taken bytes line more : List ℕ) → line ≡ rest_from [] taken ++ bytes → HasNoEnd bytes → lines_of ((taken ++ (bytes ++ 10 ∷ [])) ++ more) ≡ whole_from [] taken ++ line ∷ lines_of more
+all_now taken bytes line more is none =
+    lines-append (taken ++ (bytes ++ 10 ∷ [])) [] more ∙ rw (rest-append taken [] (bytes ++ 10 ∷ []), rest_one bytes (rest_from [] taken) none, ended_now taken bytes line is none) (append_assoc (whole_from [] taken) (line ∷ []) (lines_of more))
 
-pub none_fed : (form : Form) (n : ℕ) (s : Standing) (line : List ℕ) (w : Option (List ℕ)) → length line ≤ longest → Fed form n s line [] n s line w w
-none_fed form n s line w short = record { text = []; number = sym (add-zero n); line_is = refl; answered = (refl, refl); short = short; grows = no_growth w }
+-- what stops the line stops the bytes up to its end
+pub line_stops : (form : Form) (every : ℕ) (first : Standing) (L : Standing → Standing → Type 0) (W : List (List ℕ) → Standing → Type 0) (taken bytes line : List ℕ) (from w : Option (List ℕ)) (why : LineStop) → line ≡ rest_from [] taken ++ bytes → HasNoEnd bytes
+    → PartStops form every first L W (λ (more : List (List ℕ)). whole_from [] taken ++ line ∷ more) (whole_from [] taken ++ line ∷ []) from w why → PartStops form every first L W (λ (more : List ℕ). lines_of ((taken ++ (bytes ++ 10 ∷ [])) ++ more)) (whole_from [] (taken ++ (bytes ++ 10 ∷ []))) from w why
+line_stops form every first L W taken bytes line from w why is none h =
+    stops_more form every first L W (λ (more : List (List ℕ)). whole_from [] taken ++ line ∷ more) (λ (more : List ℕ). lines_of ((taken ++ (bytes ++ 10 ∷ [])) ++ more)) (λ more. lines_of more) (whole_from [] taken ++ line ∷ []) [] (whole_from [] (taken ++ (bytes ++ 10 ∷ []))) from w why
+    (λ more. all_now taken bytes line more is none) (ended_now taken bytes line is none ∙ sym (append-nil (whole_from [] taken ++ line ∷ []))) h
+
+module _ (form : Form) (every : ℕ) (b : Began) (taken : List ℕ) (end : Standing) (n : ℕ) (chain : Option Chained) (waiting : ℕ) (held : List ℕ) (from w : Option (List ℕ)) (told : Option (List Pair)) (honest : Type 0) (leaves : List Pair → Type 0) where
+  -- a line was taken, and the next one has not begun
+  pub line_fed : (bytes line empty : List ℕ) → line ≡ rest_from [] taken ++ bytes → HasNoEnd bytes → empty ≡ [] → Stands form every b (whole_from [] taken ++ line ∷ []) end n chain waiting held from w told honest leaves
+      → Fed form every b (taken ++ (bytes ++ 10 ∷ [])) end n empty chain waiting held from w told honest leaves
+  line_fed bytes line empty is none nothing k = record {
+    stands = rw (ended_now taken bytes line is none) k;
+    line_is = nothing ∙ sym (rest-append taken [] (bytes ++ 10 ∷ []) ∙ rest_one bytes (rest_from [] taken) none);
+    short = rw nothing (omega arith);
+  }
+
+  -- bytes without an end came to the line
+  pub bytes_fed : (bytes line line' : List ℕ) → HasNoEnd bytes → line' ≡ line ++ bytes → length line' ≤ longest → Fed form every b taken end n line chain waiting held from w told honest leaves → Fed form every b (taken ++ bytes) end n line' chain waiting held from w told honest leaves
+  bytes_fed bytes line line' none is short k = record {
+    stands = rw (whole-append taken [] bytes, whole_none bytes (rest_from [] taken) none, append-nil (whole_from [] taken)) k.stands;
+    line_is = is ∙ ap (λ (l : List ℕ). l ++ bytes) k.line_is ∙ sym (rest-append taken [] bytes ∙ rest_none bytes (rest_from [] taken) none);
+    short = short;
+  }
+
+-- ---- a piece, line by line
+
+-- the rest begins with bytes and the end of a line
+pub parted : (rest : List ℕ) (i : ℕ) → drop i rest ≡ 10 ∷ drop (i + 1) rest → rest ≡ (take i rest ++ 10 ∷ []) ++ drop (i + 1) rest
+parted rest i e = sym (take-append-drop i rest) ∙ ap (λ (t : List ℕ). take i rest ++ t) e ∙ sym (append_assoc (take i rest) (10 ∷ []) (drop (i + 1) rest))
+
+-- all of the piece but the rest was taken
+pub taken_on : (piece done rest : List ℕ) (i : ℕ) → piece ≡ done ++ rest → drop i rest ≡ 10 ∷ drop (i + 1) rest → piece ≡ (done ++ (take i rest ++ 10 ∷ [])) ++ drop (i + 1) rest
+taken_on piece done rest i are e = are ∙ ap (λ (t : List ℕ). done ++ t) (parted rest i e) ∙ sym (append_assoc done (take i rest ++ 10 ∷ []) (drop (i + 1) rest))
+
+-- the line that ends now, and what is behind it
+pub rest_of : (piece done rest : List ℕ) (i : ℕ) → piece ≡ done ++ rest → drop i rest ≡ 10 ∷ drop (i + 1) rest → piece ≡ done ++ ((take i rest ++ 10 ∷ []) ++ drop (i + 1) rest)
+rest_of piece done rest i are e = are ∙ ap (λ (t : List ℕ). done ++ t) (parted rest i e)
+
+-- what stops a part of the piece stops the piece
+pub piece_stops : (form : Form) (every : ℕ) (first : Standing) (L : Standing → Standing → Type 0) (W : List (List ℕ) → Standing → Type 0) (taken piece done now behind : List ℕ) (from w : Option (List ℕ)) (why : LineStop) → piece ≡ done ++ (now ++ behind)
+    → PartStops form every first L W (λ (more : List ℕ). lines_of (((taken ++ done) ++ now) ++ more)) (whole_from [] ((taken ++ done) ++ now)) from w why → PartStops form every first L W (λ (more : List ℕ). lines_of ((taken ++ piece) ++ more)) (whole_from [] (taken ++ piece)) from w why
+piece_stops form every first L W taken piece done now behind from w why are h =
+    let whole : taken ++ piece ≡ ((taken ++ done) ++ now) ++ behind = ap (λ (t : List ℕ). taken ++ t) are ∙ simp append_assoc in
+    stops_more form every first L W (λ (more : List ℕ). lines_of (((taken ++ done) ++ now) ++ more)) (λ (more : List ℕ). lines_of ((taken ++ piece) ++ more)) (λ more. behind ++ more) (whole_from [] ((taken ++ done) ++ now)) (whole_from (rest_from [] ((taken ++ done) ++ now)) behind) (whole_from [] (taken ++ piece)) from w why
+    (λ more. ap (λ (t : List ℕ). lines_of (t ++ more)) whole ∙ ap lines_of (append_assoc ((taken ++ done) ++ now) behind more))
+    (ap (whole_from []) whole ∙ whole-append ((taken ++ done) ++ now) [] behind) h
+
+-- what is behind the last end begins the next line, or stops the piece
+module _ (form : Form) (every : ℕ) (b : Began) (taken piece done rest : List ℕ) (end : Standing) (n : ℕ) (line : List ℕ) (chain : Option Chained) (waiting : ℕ) (held : List ℕ) (from w : Option (List ℕ)) (told : Option (List Pair)) (honest : Type 0) (leaves : List Pair → Type 0) where
+  pub rest_fed : (line' : List ℕ) (r : Result ⊤ LineStop) → piece ≡ done ++ rest → HasNoEnd rest → Fed form every b (taken ++ done) end n line chain waiting held from w told honest leaves → OnOk r (line' ≡ line ++ rest) → OnOk r (length line' ≤ longest)
+      → OnOk r ((next : Standing) × Fed form every b (taken ++ piece) next n line' chain waiting held from w told honest leaves)
+  rest_fed line' (Err why) are none k is short = tt
+  rest_fed line' (Ok x) are none k is short =
+      let whole : taken ++ piece ≡ (taken ++ done) ++ rest = ap (λ (t : List ℕ). taken ++ t) are ∙ sym (append_assoc taken done rest) in
+      (end, rw whole (bytes_fed form every b (taken ++ done) end n chain waiting held from w told honest leaves rest line line' none is short k))
+
+  pub piece_extends : (r : Result ⊤ LineStop) → piece ≡ done ++ rest → HasNoEnd rest → Fed form every b (taken ++ done) end n line chain waiting held from w told honest leaves → IfErr r (λ why. NotExtended why n line rest)
+      → IfErr r (PartStops form every b.first (LeftIn b told honest leaves) (λ lines last. Stands form every b lines last n chain waiting held from w told honest leaves) (λ (more : List ℕ). lines_of ((taken ++ piece) ++ more)) (whole_from [] (taken ++ piece)) from w)
+  piece_extends (Ok x) are none k h = tt
+  piece_extends (Err why) are none k h =
+      piece_stops form every b.first (LeftIn b told honest leaves) (λ lines last. Stands form every b lines last n chain waiting held from w told honest leaves) taken piece done (rest ++ []) [] from w why
+      (are ∙ ap (λ (t : List ℕ). done ++ t) (sym (append-nil rest) ∙ sym (append-nil (rest ++ []))))
+      (extend_stops form every b (taken ++ done) rest [] end n line chain waiting held from w told honest leaves why k none h)
+
+-- no more lines end than there are bytes, so the number fits
+pub piece_number : (taken piece done rest : List ℕ) (n n' : ℕ) → piece ≡ done ++ rest → n ≡ 1 + length (whole_from [] taken) → n' ≡ 1 + length (whole_from [] (taken ++ done)) → n' + length rest ≤ n + length piece
+piece_number taken piece done rest n n' are is is' =
+    let lines : length (whole_from [] (taken ++ done)) ≡ length (whole_from [] taken) + length (whole_from (rest_from [] taken) done) = ap length (whole-append taken [] done) ∙ length-append (whole_from [] taken) (whole_from (rest_from [] taken) done) in
+    let few : length (whole_from (rest_from [] taken) done) ≤ length done = whole_no_longer done (rest_from [] taken) in
+    let size : length piece ≡ length done + length rest = ap length are ∙ length-append done rest in
+    omega (arith, lines, few, size, is, is')
+
+pub number_fits : (taken : List ℕ) (n : ℕ) → n ≡ 1 + length (whole_from [] taken) → n ≤ 1 + length taken
+number_fits taken n is = let h : length (whole_from [] taken) ≤ length taken = whole_no_longer taken [] in omega (arith, is, h)
 
 -- ---- the end of the input
 
 pub last-some : (line : List ℕ) → 0 < length line → last_line line ≡ line ∷ []
 last-some [] h = absurd (omega arith)
 last-some (b ∷ line) h = refl
+
+-- no line is left
+pub last-none : (line : List ℕ) → length line ≡ 0 → last_line line ≡ []
+last-none [] h = refl
+last-none (b ∷ line) h = absurd (omega (arith, h))
 
 -- what is told of a report alone says nothing of a keeper
 abbrev pub untold : Standing → Standing → Type 0
@@ -164,129 +272,42 @@ module _ (form : Form) (L : Standing → Standing → Type 0) (n : ℕ) (s s' : 
     left = same_end h.done h.end h.answered;
   }
 
-  -- what the report gives, at no lines, is what the end gives, at lines that were answered
-  pub report_ends : (stop : EndStop) (text : List ℕ) → IsOfReport stop → FinishEnds form untold 1 s' [] stop text → FinishEnds form L n s lines stop (text' ++ text)
-  report_ends (ends.Line stop) text of h = absurd of
-  report_ends (ends.Lacking m fault) text of h = record { end = h.end; answered = answered_all form n 1 s s' lines text' text h.end good h.answered; fault_is = h.fault_is; left = same_end text h.end h.answered }
-  report_ends ends.Report text of h = reported text h
-  report_ends ends.Flush text of h = finished text h
-  report_ends ends.NoMemory text of (inl h) = inl (reported text h)
-  report_ends ends.NoMemory text of (inr h) = inr (record { end = h.end; answered = answered_all form n 1 s s' lines text' text h.end good h.answered; left = same_end text h.end h.answered })
+  lacking : (text : List ℕ) (m : ℕ) (fault : InputFault) → Lacking form untold 1 s' [] text (BadInput m fault) → Lacking form L n s lines (text' ++ text) (BadInput m fault)
+  lacking text m fault h = record { end = h.end; answered = answered_all form n 1 s s' lines text' text h.end good h.answered; fault_is = h.fault_is; left = same_end text h.end h.answered }
 
-  pub report_stops : (w w1 w' : Option (List ℕ)) (stop : EndStop) → Grows w w1 text' → IsOfReport stop → FinishStops form untold 1 s' [] w1 w' stop → FinishStops form L n s lines w w' stop
-  report_stops w w1 w' stop grows of stops = (text' ++ stops.0, grows_on w w1 w' text' stops.0 grows stops.1, report_ends stop stops.0 of stops.2)
+  held : (text : List ℕ) → Answered form untold 1 s' [] text → Held form L n s lines (text' ++ text)
+  held text h = record { before = lines; after = []; middle = h.end; lines_are = sym (append-nil lines); answered = answered_all form n 1 s s' lines text' text h.end good h.answered; left = same_end text h.end h.answered }
 
-  pub report_done : (w w1 w' : Option (List ℕ)) → Grows w w1 text' → Finishes form untold 1 s' [] w1 w' → Finishes form L n s lines w w'
-  report_done w w1 w' grows done = (text' ++ done.0, finished done.0 done.1, grows_on w w1 w' text' done.0 grows done.2)
+-- what the report gives, behind lines that were written, is how the run ends
+module _ (form : Form) (every : ℕ) (L : Standing → Standing → Type 0) (first end : Standing) (taken text' : List ℕ) (short : length taken ≤ most_bytes) (good : AreAnswered form 1 first (lines_of taken) text' end) (left : L end end) where
+  finish_as : (s : Status) (text : List ℕ) → FinishAs form untold 1 end [] s text → Ends form every first L taken [] s (text' ++ text)
+  finish_as status.Done text h = (refl, short, finished form L 1 first end (lines_of taken) text' good left text h)
+  finish_as (status.BadInput m fault) text h = (short, inr (refl, lacking form L 1 first end (lines_of taken) text' good left text m fault h))
+  finish_as status.WriteFault text (inl h) = (short, inr (inl (refl, reported form L 1 first end (lines_of taken) text' good left text h)))
+  finish_as status.WriteFault text (inr h) = (short, inr (inr (refl, finished form L 1 first end (lines_of taken) text' good left text h)))
+  finish_as status.NoMemory text (inl h) = (short, inr (refl, reported form L 1 first end (lines_of taken) text' good left text h))
+  finish_as status.NoMemory text (inr h) = (short, inl (lines_of taken, inr (refl, refl), inr (inl (held form L 1 first end (lines_of taken) text' good left text h))))
+  finish_as status.Usage text h = absurd h
+  finish_as (status.Limit n kind) text h = absurd h
+  finish_as status.ReadFault text h = absurd h
+  finish_as status.KeepFault text h = absurd h
+  finish_as status.BadStore text h = absurd h
+  finish_as (status.WrongStore is_empty) text h = absurd h
+  finish_as status.NotFound text h = absurd h
+  finish_as (status.NoPast base last) text h = absurd h
 
--- the last line alone
-one_answered : (form : Form) (n : ℕ) (s s' : Standing) (line text : List ℕ) → line_answer form n s line ≡ Ok (record { text = text; standing = s' }) → AreAnswered form n s (line ∷ []) text s'
-one_answered form n s s' line text h = (record { text = text; standing = s' }, [], h, sym (append-nil text), (refl, refl))
+  pub finish_ends : (from w w' : Option (List ℕ)) (s : Status) → Grows from w text' → FinishStatus form untold 1 end [] w w' s → EndsSo form every first L taken [] from w' s
+  finish_ends from w w' s grows f = (text' ++ f.0, grows_on from w w' text' f.0 grows f.1, finish_as s f.0 f.2)
 
-module _ (form : Form) (L : Standing → Standing → Type 0) (n : ℕ) (s s' : Standing) (line : List ℕ) (w w1 w' : Option (List ℕ)) (some : 0 < length line) (took : Took form n s line s' w w1) (left : L s' s') where
-  pub line_done : Finishes form untold 1 s' [] w1 w' → Finishes form L n s (last_line line) w w'
-  line_done done = rw (last-some line some) (report_done form L n s s' (line ∷ []) took.0 (one_answered form n s s' line took.0 took.1) left w w1 w' took.2 done)
+-- how the report ends
+pub end_status : (form : Form) (s : Standing) (w w' : Option (List ℕ)) (stop : EndStop) → FinishStops form untold 1 s [] w w' stop → FinishStatus form untold 1 s [] w w' (status_at_end stop)
+end_status form s w w' (ends.Lacking m fault) h = h
+end_status form s w w' ends.Report h = (h.0, h.1, inl h.2)
+end_status form s w w' ends.Flush h = (h.0, h.1, inr h.2)
+end_status form s w w' ends.NoMemory h = h
 
-  pub line_report_stops : (stop : EndStop) → IsOfReport stop → FinishStops form untold 1 s' [] w1 w' stop → FinishStops form L n s (last_line line) w w' stop
-  line_report_stops stop of stops = rw (last-some line some) (report_stops form L n s s' (line ∷ []) took.0 (one_answered form n s s' line took.0 took.1) left w w1 w' stop took.2 of stops)
-
--- the last line stops the end
-last_ends : (form : Form) (L : Standing → Standing → Type 0) (n : ℕ) (s : Standing) (line text : List ℕ) (stop : LineStop) → PartEnds form L n s (λ (more : List (List ℕ)). line ∷ more) (line ∷ []) stop text → PartEnds form L n s (λ (_ : ⊤). line ∷ []) (line ∷ []) stop text
-last_ends form L n s line text (BadInput m fault) h = h
-last_ends form L n s line text (Long m) h = λ u. h []
-last_ends form L n s line text (Ratio m over) h = h
-last_ends form L n s line text Write h = h
-last_ends form L n s line text Keep h = h
-last_ends form L n s line text NoMemory h = h
-
-pub last_stops : (form : Form) (L : Standing → Standing → Type 0) (n : ℕ) (s : Standing) (line : List ℕ) (w w' : Option (List ℕ)) (stop : LineStop) → 0 < length line → PartStops form L n s (λ (more : List (List ℕ)). line ∷ more) (line ∷ []) w w' stop → FinishStops form L n s (last_line line) w w' (ends.Line stop)
-last_stops form L n s line w w' stop some stops = rw (last-some line some) (stops.0, stops.1, last_ends form L n s line stops.0 stop stops.2)
-
--- no line is left
-pub last-none : (line : List ℕ) → length line ≡ 0 → last_line line ≡ []
-last-none [] h = refl
-last-none (b ∷ line) h = absurd (omega (arith, h))
-
-module _ (form : Form) (L : Standing → Standing → Type 0) (n : ℕ) (s : Standing) (line : List ℕ) (w w' : Option (List ℕ)) (none : length line ≡ 0) (left : L s s) where
-  pub none_done : Finishes form untold 1 s [] w w' → Finishes form L n s (last_line line) w w'
-  none_done done = rw (last-none line none) (report_done form L n s s [] [] (refl, refl) left w w w' (no_growth w) done)
-
-  pub none_report_stops : (stop : EndStop) → IsOfReport stop → FinishStops form untold 1 s [] w w' stop → FinishStops form L n s (last_line line) w w' stop
-  none_report_stops stop of stops = rw (last-none line none) (report_stops form L n s s [] [] (refl, refl) left w w w' stop (no_growth w) of stops)
-
--- ---- a piece, line by line
-
--- all of the piece but the rest was taken
-pub record FedTo (form : Form) (n : ℕ) (s : Standing) (line piece rest : List ℕ) (n' : ℕ) (s' : Standing) (line' : List ℕ) (w w' : Option (List ℕ)) : Type 0 where
-  pub done : List ℕ
-  pub piece_is : piece ≡ done ++ rest
-  pub fed : Fed form n s line done n' s' line' w w'
-
--- before the first byte of it nothing was
-pub fed_first : (form : Form) (n : ℕ) (s : Standing) (line piece : List ℕ) (w : Option (List ℕ)) → length line ≤ longest → FedTo form n s line piece piece n s line w w
-fed_first form n s line piece w short = record { done = []; piece_is = refl; fed = none_fed form n s line w short }
-
--- the rest begins with bytes and the end of a line
-pub parted : (rest : List ℕ) (i : ℕ) → drop i rest ≡ 10 ∷ drop (i + 1) rest → rest ≡ (take i rest ++ 10 ∷ []) ++ drop (i + 1) rest
-parted rest i e = sym (take-append-drop i rest) ∙ ap (λ (t : List ℕ). take i rest ++ t) e ∙ sym (append_assoc (take i rest) (10 ∷ []) (drop (i + 1) rest))
-
-pub fed_to_end : (form : Form) (n : ℕ) (s : Standing) (line piece rest : List ℕ) (n1 : ℕ) (s1 : Standing) (line1 : List ℕ) (i n2 : ℕ) (s2 : Standing) (line2 : List ℕ) (w w1 w2 : Option (List ℕ)) → FedTo form n s line piece rest n1 s1 line1 w w1
-    → drop i rest ≡ 10 ∷ drop (i + 1) rest → Fed form n1 s1 line1 (take i rest ++ 10 ∷ []) n2 s2 line2 w1 w2 → FedTo form n s line piece (drop (i + 1) rest) n2 s2 line2 w w2
-fed_to_end form n s line piece rest n1 s1 line1 i n2 s2 line2 w w1 w2 f e g = record {
-  done = f.done ++ (take i rest ++ 10 ∷ []);
-  piece_is = f.piece_is ∙ ap (λ (t : List ℕ). f.done ++ t) (parted rest i e) ∙ sym (append_assoc f.done (take i rest ++ 10 ∷ []) (drop (i + 1) rest));
-  fed = fed-append form n s line f.done n1 s1 line1 (take i rest ++ 10 ∷ []) n2 s2 line2 w w1 w2 f.fed g;
-}
-
-pub fed_to_rest : (form : Form) (n : ℕ) (s : Standing) (line piece rest : List ℕ) (n1 : ℕ) (s1 : Standing) (line1 line2 : List ℕ) (w w1 : Option (List ℕ)) → FedTo form n s line piece rest n1 s1 line1 w w1
-    → HasNoEnd rest → line2 ≡ line1 ++ rest → length line2 ≤ longest → Fed form n s line piece n1 s1 line2 w w1
-fed_to_rest form n s line piece rest n1 s1 line1 line2 w w1 f none e short =
-    rw (f.piece_is, e) (fed-append form n s line f.done n1 s1 line1 rest n1 s1 (line1 ++ rest) w w1 w1 f.fed (bytes_fed form n1 s1 line1 rest w1 none (rw e at short)))
-
-pub end_stops : (form : Form) (L : Standing → Standing → Type 0) (n : ℕ) (s : Standing) (line piece rest : List ℕ) (n1 : ℕ) (s1 : Standing) (line1 : List ℕ) (i : ℕ) (w w1 w' : Option (List ℕ)) (stop : LineStop) → FedTo form n s line piece rest n1 s1 line1 w w1
-    → drop i rest ≡ 10 ∷ drop (i + 1) rest → PartStops form L n1 s1 (lines_after line1 (take i rest ++ 10 ∷ [])) (whole_from line1 (take i rest ++ 10 ∷ [])) w1 w' stop → PartStops form L n s (lines_after line piece) (whole_from line piece) w w' stop
-end_stops form L n s line piece rest n1 s1 line1 i w w1 w' stop f e stops =
-    fed_stops form L n s line f.done n1 s1 line1 (take i rest ++ 10 ∷ []) (drop (i + 1) rest) piece w w1 w' stop f.fed (f.piece_is ∙ ap (λ (t : List ℕ). f.done ++ t) (parted rest i e)) stops
-
-pub rest_stops : (form : Form) (L : Standing → Standing → Type 0) (n : ℕ) (s : Standing) (line piece rest : List ℕ) (n1 : ℕ) (s1 : Standing) (line1 : List ℕ) (w w1 : Option (List ℕ)) (stop : LineStop) → FedTo form n s line piece rest n1 s1 line1 w w1
-    → L s1 s1 → HasNoEnd rest → NotExtended stop n1 line1 rest → PartStops form L n s (lines_after line piece) (whole_from line piece) w w1 stop
-rest_stops form L n s line piece rest n1 s1 line1 w w1 stop f left none h =
-    let whole : rest ++ [] ≡ rest = append-nil rest in
-    fed_stops form L n s line f.done n1 s1 line1 (rest ++ []) [] piece w w1 w1 stop f.fed (f.piece_is ∙ ap (λ (t : List ℕ). f.done ++ t) (sym whole ∙ sym (append-nil (rest ++ [])))) (extend_stops form L n1 s1 line1 rest [] w1 stop left none h)
-
--- no more lines end than there are bytes, so the number fits
-pub fed_to_number : (form : Form) (n : ℕ) (s : Standing) (line piece rest : List ℕ) (n1 : ℕ) (s1 : Standing) (line1 : List ℕ) (w w1 : Option (List ℕ)) → FedTo form n s line piece rest n1 s1 line1 w w1 → n1 + length rest ≤ n + length piece
-fed_to_number form n s line piece rest n1 s1 line1 w w1 f =
-    let h : n1 ≤ n + length f.done = fed_number form n s line f.done n1 s1 line1 w w1 f.fed in
-    let k : length piece ≡ length f.done + length rest = ap length f.piece_is ∙ length-append f.done rest in
-    omega arith
-
-both_err : {A E : Type 0} (r : Result A E) (P Q R : E → Type 0) → ((e : E) → P e → Q e → R e) → IfErr r P → IfErr r Q → IfErr r R
-both_err (Ok x) P Q R f p q = tt
-both_err (Err e) P Q R f p q = f e p q
-
-pub line_report_all : (form : Form) (L : Standing → Standing → Type 0) (r : Result (Unit {0}) EndStop) (n : ℕ) (s s' : Standing) (line : List ℕ) (w w1 w' : Option (List ℕ)) → 0 < length line → Took form n s line s' w w1 → L s' s' → IfErr r IsOfReport → IfErr r (FinishStops form untold 1 s' [] w1 w') → IfErr r (FinishStops form L n s (last_line line) w w')
-line_report_all form L r n s s' line w w1 w' h took left of stops = both_err r IsOfReport _ _ (λ stop o t. line_report_stops form L n s s' line w w1 w' h took left stop o t) of stops
-
-pub none_report_all : (form : Form) (L : Standing → Standing → Type 0) (r : Result (Unit {0}) EndStop) (n : ℕ) (s : Standing) (line : List ℕ) (w w' : Option (List ℕ)) → length line ≡ 0 → L s s → IfErr r IsOfReport → IfErr r (FinishStops form untold 1 s [] w w') → IfErr r (FinishStops form L n s (last_line line) w w')
-none_report_all form L r n s line w w' none left of stops = both_err r IsOfReport _ _ (λ stop o t. none_report_stops form L n s line w w' none left stop o t) of stops
-
-pub piece_fed : (form : Form) (r : Result (Unit {0}) LineStop) (n : ℕ) (s : Standing) (line piece rest : List ℕ) (n1 : ℕ) (s1 : Standing) (line1 line2 : List ℕ) (w w1 : Option (List ℕ)) → FedTo form n s line piece rest n1 s1 line1 w w1
-    → HasNoEnd rest → OnOk r (line2 ≡ line1 ++ rest) → OnOk r (length line2 ≤ longest) → OnOk r (Fed form n s line piece n1 s1 line2 w w1)
-piece_fed form (Ok x) n s line piece rest n1 s1 line1 line2 w w1 f none e short = fed_to_rest form n s line piece rest n1 s1 line1 line2 w w1 f none e short
-piece_fed form (Err stop) n s line piece rest n1 s1 line1 line2 w w1 f none e short = tt
-
--- on an answer of Ok there is what it leads to, for which the chain stands
-pub fed_with : {A : Type 0} (r : Result A LineStop) (next : Standing) (P Q : Standing → Type 0) → OnOk r (P next) → Q next → OnOk r ((x : Standing) × P x × Q x)
-fed_with (Ok a) next P Q p q = (next, p, q)
-fed_with (Err stop) next P Q p q = tt
-
-pub piece_stops : (form : Form) (L : Standing → Standing → Type 0) (r : Result (Unit {0}) LineStop) (n : ℕ) (s : Standing) (line piece rest : List ℕ) (n1 : ℕ) (s1 : Standing) (line1 : List ℕ) (w w1 : Option (List ℕ)) → FedTo form n s line piece rest n1 s1 line1 w w1
-    → L s1 s1 → HasNoEnd rest → IfErr r (λ stop. NotExtended stop n1 line1 rest) → IfErr r (PartStops form L n s (lines_after line piece) (whole_from line piece) w w1)
-piece_stops form L (Ok x) n s line piece rest n1 s1 line1 w w1 f left none h = tt
-piece_stops form L (Err stop) n s line piece rest n1 s1 line1 w w1 f left none h = rest_stops form L n s line piece rest n1 s1 line1 w w1 stop f left none h
-
--- ---- the report
+pub done_status : (form : Form) (s : Standing) (w w' : Option (List ℕ)) → Finishes form untold 1 s [] w w' → FinishStatus form untold 1 s [] w w' status.Done
+done_status form s w w' f = (f.0, f.2, f.1)
 
 -- nothing was written of the report, and memory was wanting
 pub nothing_reported : (form : Form) (s : Standing) (written : Option (List ℕ)) → FinishStops form untold 1 s [] written written ends.NoMemory

@@ -22,7 +22,7 @@ use Rattle.rule_modules.specs.Chain.{State}
 use Rattle.store_items.specs.Stored.{AreStored, rows_as, rows_in}
 use Rattle.run_app.specs.declared.status.Status.{Status}
 use Rattle.run_app.specs.declared.status.Status.TheVariants.{Done, Usage, BadInput, Limit, ReadFault, WriteFault, KeepFault, NoMemory, BadStore, WrongStore, NotFound, NoPast}
-use Rattle.run_app.specs.{Counts.{Moved, is_keep_fault, is_read_fault, is_write_fault}, Machine.Standing}
+use Rattle.run_app.specs.Counts.{Moved, is_keep_fault, is_read_fault, is_write_fault}
 use Rattle.run_app.specs.{Kept.{AreLeft, Began, BeganOnRows, Keeping, LeftIn}, Outcome.RunEnds}
 use Rattle.run_app.specs.Resumes.{Answers, AsksCalmly, Asked, FitsState, GoesOn, IsAnswered, IsUnresumed, QueryEnds, ResumeEnds, ResumesCalmly, on_rows_of, status_of_restore}
 use Rattle.run_app.specs.{Unkept.IsOfNoRows, Writes.{Adds, Writes}, Seen.{keeper_told, sink_told, source_told}}
@@ -102,10 +102,10 @@ module _ (form : Form) (rows told : Option (List Pair)) (honest : Type 0) (chain
   module _ (told' : Option (List Pair)) (honest' : Type 0) (leaves leaves' : List Pair → Type 0) where
     -- rows that were brought to the format that is written
     module _ (settled : LeavesRows leaves told) (commits : (items : List Item) → LeadTo items list told → Commits (Ok tt) items told told' honest honest' leaves leaves') where
-      pub resumed : (p : State) → IsStorable p → HaveSameRows p first → Keeping (on_rows_of p rows) (Some chain) told' honest' leaves' (Some p)
+      pub resumed : (p : State) → IsStorable p → HaveSameRows p first → Keeping (on_rows_of p rows) (Some chain) told' honest' leaves' (Some p) (Some p)
       resumed p q alike = record {
         stands = r.restored.stands p q alike;
-        same = r.restored.settled;
+        same = subst (λ m. StandsFor m p) (sym r.restored.settled) (r.restored.stands p q alike);
         held = record { stored = k.stored; rows = held told' k.ok };
         began = began told' k.ok;
         tells = λ h some. k.told h (r.restored.rows_are.told (k.back h) some);
@@ -126,24 +126,24 @@ module _ (form : Form) (rows told : Option (List Pair)) (honest : Type 0) (chain
               let was = subst (λ (o : Option (List Pair)). Makes (λ before. before) rows o) m.1 same in
               (f, was.1 ∙ ap Some (sym was.2 ∙ are ∙ sym (formats_same p first q r.restored.storable alike f)))
 
-      pub resumed_first : Keeping (on_rows_of first rows) (Some chain) told' honest' leaves' (Some first)
+      pub resumed_first : Keeping (on_rows_of first rows) (Some chain) told' honest' leaves' (Some first) (Some first)
       resumed_first = resumed first r.restored.storable (same_itself first)
 
-      module _ (left left' w w' : Option (List ℕ)) (rows' : Option (List Pair)) (honest'' : Type 0) (leaves'' : List Pair → Type 0) (s : Status) where
+      module _ (every : ℕ) (left left' w w' : Option (List ℕ)) (rows' : Option (List Pair)) (honest'' : Type 0) (leaves'' : List Pair → Type 0) (s : Status) where
         pub went_on : (honest'' → honest') → (honest' → honest)
-            → ((b : Began) (start : Standing) → Keeping b (Some chain) told' honest' leaves' start → RunEnds form start (LeftIn b rows' honest'' leaves'') left left' w w' s)
-            → GoesOn form left left' w w' rows rows' honest'' leaves'' s
+            → ((b : Began) → Keeping b (Some chain) told' honest' leaves' b.first b.first → RunEnds form every b.first (LeftIn b rows' honest'' leaves'') left left' w w' s)
+            → GoesOn form every left left' w w' rows rows' honest'' leaves'' s
         went_on later back ends = record {
           first = first;
           storable = r.restored.storable;
           loaded = λ h. were_loaded rows told honest (λ now. AreStateRows now first) r.restored.rows_are same (back (later h));
-          ends = λ p q alike. ends (on_rows_of p rows) (Some p) (resumed p q alike);
+          ends = λ p q alike. ends (on_rows_of p rows) (resumed p q alike);
         }
 
     -- or were not
-    pub not_brought : (before : List Pair → Type 0) (why : Unkept) (left w : Option (List ℕ)) (s : Status) → (s ≡ KeepFault) ⊎ (s ≡ NoMemory) → (list ≡ [] → ⊥) → Commits (Err why) (items_of first) told told' honest honest' leaves leaves' → (honest → (l : List Pair) → leaves l → before l)
-        → ResumeEnds form (source_told left left) (sink_told w w) (keeper_told rows told' honest' before leaves') s
-    not_brought before why left w s is some k stop = inr (inr (
+    pub not_brought : (every : ℕ) (before : List Pair → Type 0) (why : Unkept) (left w : Option (List ℕ)) (s : Status) → (s ≡ KeepFault) ⊎ (s ≡ NoMemory) → (list ≡ [] → ⊥) → Commits (Err why) (items_of first) told told' honest honest' leaves leaves' → (honest → (l : List Pair) → leaves l → before l)
+        → ResumeEnds form every (source_told left left) (sink_told w w) (keeper_told rows told' honest' before leaves') s
+    not_brought every before why left w s is some k stop = inr (inr (
       record {
         first = first;
         storable = r.restored.storable;
@@ -174,9 +174,9 @@ unresumed fault.NoMemory rows rows' honest' h = tt
 unresumed fault.Empty rows rows' honest' h = (refl, h)
 unresumed fault.Unsound rows rows' honest' h = h
 
-pub not_resumed : (form : Form) (f : RestoreFault) (left w : Option (List ℕ)) (rows rows' : Option (List Pair)) (honest' : Type 0) (leaves leaves' : List Pair → Type 0) → IsUnrestored rows rows' honest' f → Makes (λ before. before) rows rows' → (honest' → (l : List Pair) → leaves' l → leaves l)
-    → ResumeEnds form (source_told left left) (sink_told w w) (keeper_told rows rows' honest' leaves leaves') (status_of_restore f)
-not_resumed form f left w rows rows' honest' leaves leaves' h same stop = inr (inl (unresumed f rows rows' honest' h, nothing_done left w, rows_left rows rows' honest' leaves leaves' same stop))
+pub not_resumed : (form : Form) (every : ℕ) (f : RestoreFault) (left w : Option (List ℕ)) (rows rows' : Option (List Pair)) (honest' : Type 0) (leaves leaves' : List Pair → Type 0) → IsUnrestored rows rows' honest' f → Makes (λ before. before) rows rows' → (honest' → (l : List Pair) → leaves' l → leaves l)
+    → ResumeEnds form every (source_told left left) (sink_told w w) (keeper_told rows rows' honest' leaves leaves') (status_of_restore f)
+not_resumed form every f left w rows rows' honest' leaves leaves' h same stop = inr (inl (unresumed f rows rows' honest' h, nothing_done left w, rows_left rows rows' honest' leaves leaves' same stop))
 
 pub not_asked : (form : Form) (f : RestoreFault) (what : Query) (w : Option (List ℕ)) (rows rows' : Option (List Pair)) (honest' : Type 0) (leaves leaves' : List Pair → Type 0) → IsUnrestored rows rows' honest' f → Makes (λ before. before) rows rows' → (honest' → (l : List Pair) → leaves' l → leaves l)
     → QueryEnds form what (sink_told w w) (keeper_told rows rows' honest' leaves leaves') (status_of_restore f)
@@ -280,15 +280,15 @@ alike_of p first rows honest' faults faults' fits loaded =
     let (f, is) = fits.rows_are in
     (state_rows f p, (f, refl), at_rows rows (state_rows f p) (λ now. AreStateRows now first) is loaded)
 
-pub untroubled_resume : (form : Form) (left left' w w' : Option (List ℕ)) (rows rows' : Option (List Pair)) (honest' : Type 0) (leaves leaves' : List Pair → Type 0) (faults faults' : ℕ) (s : Status) → ResumeEnds form (source_told left left') (sink_told w w') (keeper_told rows rows' honest' leaves leaves') s → ResumesCalmly form left rows honest' faults faults'
+pub untroubled_resume : (form : Form) (every : ℕ) (left left' w w' : Option (List ℕ)) (rows rows' : Option (List Pair)) (honest' : Type 0) (leaves leaves' : List Pair → Type 0) (faults faults' : ℕ) (s : Status) → ResumeEnds form every (source_told left left') (sink_told w w') (keeper_told rows rows' honest' leaves leaves') s → ResumesCalmly form left rows honest' faults faults'
     → (s ≡ Usage → ⊥) → (s ≡ ReadFault → ⊥) → (s ≡ WriteFault → ⊥) → (s ≡ KeepFault → Rose faults faults') → (s ≡ Done) ⊎ (s ≡ NoMemory)
-untroubled_resume form left left' w w' rows rows' honest' leaves leaves' faults faults' s (inl goes) calm busy read write keep =
+untroubled_resume form every left left' w w' rows rows' honest' leaves leaves' faults faults' s (inl goes) calm busy read write keep =
     let fits = calm.2 in
     let alike = alike_of calm.0 goes.first rows honest' faults faults' fits (goes.loaded fits.honest) in
-    untroubled_run form _ (Some calm.0) left left' w w' s (goes.ends calm.0 fits.storable alike) calm.1 busy read write (λ e. fits.quiet (keep e))
-untroubled_resume form left left' w w' rows rows' honest' leaves leaves' faults faults' s (inr (inl ends)) calm busy read write keep =
+    untroubled_run form every _ (Some calm.0) left left' w w' s (goes.ends calm.0 fits.storable alike) calm.1 busy read write (λ e. fits.quiet (keep e))
+untroubled_resume form every left left' w w' rows rows' honest' leaves leaves' faults faults' s (inr (inl ends)) calm busy read write keep =
     never_unresumed calm.0 rows rows' honest' faults faults' calm.2 ends.2.rows_are s ends.0 keep
-untroubled_resume form left left' w w' rows rows' honest' leaves leaves' faults faults' s (inr (inr ends)) calm busy read write keep = elim ends.0.why [
+untroubled_resume form every left left' w w' rows rows' honest' leaves leaves' faults faults' s (inr (inr ends)) calm busy read write keep = elim ends.0.why [
   | inl failed ↦ absurd (calm.2.quiet (keep failed))
   | inr wanting ↦ inr wanting
 ]

@@ -17,7 +17,7 @@ use Rattle.run_app.specs.Seen.{keeper_told, sink_told, source_told}
 
 -- ---- what is left of a run, by something weaker
 
-module _ (form : Form) (first : Standing) (L L' : Standing → Standing → Type 0) (leads : (s t : Standing) → L s t → L' s t) where
+module _ (form : Form) (every : ℕ) (first : Standing) (L L' : Standing → Standing → Type 0) (leads : (s t : Standing) → L s t → L' s t) where
   named : (n : ℕ) (s : Standing) (lines : List (List ℕ)) (text : List ℕ) (fault : LineStop) → Named form L n s lines text fault → Named form L' n s lines text fault
   named n s lines text fault r = record {
     before = r.before;
@@ -30,35 +30,11 @@ module _ (form : Form) (first : Standing) (L L' : Standing → Standing → Type
     left = leads r.middle r.middle r.left;
   }
 
-  wrote : (n : ℕ) (s : Standing) (lines : List (List ℕ)) (text : List ℕ) → Wrote form L n s lines text → Wrote form L' n s lines text
-  wrote n s lines text r = record {
-    before = r.before;
-    line = r.line;
-    after = r.after;
-    middle = r.middle;
-    done = r.done;
-    answer = r.answer;
-    front = r.front;
-    lines_are = r.lines_are;
-    answered = r.answered;
-    answer_is = r.answer_is;
-    part = r.part;
-    text_is = r.text_is;
-    left = leads r.answer.standing r.answer.standing r.left;
-  }
+  wrote : (n : ℕ) (s : Standing) (lines : List (List ℕ)) (text : List ℕ) → Wrote form every L n s lines text → Wrote form every L' n s lines text
+  wrote n s lines text r = record { done = r.done; middle = r.middle; due = r.due; end = r.end; front = r.front; batched = r.batched; part = r.part; text_is = r.text_is; left = leads r.end r.end r.left }
 
-  unkept : (n : ℕ) (s : Standing) (lines : List (List ℕ)) (text : List ℕ) → Unkept form L n s lines text → Unkept form L' n s lines text
-  unkept n s lines text r = record {
-    before = r.before;
-    line = r.line;
-    after = r.after;
-    middle = r.middle;
-    answer = r.answer;
-    lines_are = r.lines_are;
-    answered = r.answered;
-    answer_is = r.answer_is;
-    left = leads r.middle r.answer.standing r.left;
-  }
+  unkept : (n : ℕ) (s : Standing) (lines : List (List ℕ)) (text : List ℕ) → Unkept form every L n s lines text → Unkept form every L' n s lines text
+  unkept n s lines text r = record { middle = r.middle; due = r.due; end = r.end; batched = r.batched; left = leads r.middle r.end r.left }
 
   held : (n : ℕ) (s : Standing) (lines : List (List ℕ)) (text : List ℕ) → Held form L n s lines text → Held form L' n s lines text
   held n s lines text r = record {
@@ -103,7 +79,7 @@ module _ (form : Form) (first : Standing) (L L' : Standing → Standing → Type
     line = r.line;
   }
 
-  ends : (taken rest : List ℕ) (status : Status) (text : List ℕ) → Ends form first L taken rest status text → Ends form first L' taken rest status text
+  ends : (taken rest : List ℕ) (status : Status) (text : List ℕ) → Ends form every first L taken rest status text → Ends form every first L' taken rest status text
   ends taken rest Done text e = (e.0, e.1, finished 1 first _ text e.2)
   ends taken rest Usage text e = absurd e
   ends taken rest (BadInput n fault) text e =
@@ -141,7 +117,7 @@ module _ (form : Form) (first : Standing) (L L' : Standing → Standing → Type
   ends taken rest NotFound text e = absurd e
   ends taken rest (NoPast base last) text e = absurd e
 
-  pub weaker_run : (left left' w w' : Option (List ℕ)) (status : Status) → RunEnds form first L left left' w w' status → RunEnds form first L' left left' w w' status
+  pub weaker_run : (left left' w w' : Option (List ℕ)) (status : Status) → RunEnds form every first L left left' w w' status → RunEnds form every first L' left left' w w' status
   weaker_run left left' w w' status r = (r.0, r.1, r.2, r.3, r.4, ends r.0 r.1 status r.2 r.5)
 
 -- ---- rows that a load left
@@ -176,9 +152,9 @@ module _ (rows mid : Option (List Pair)) (honest' : Type 0) (same : Makes (λ be
     left_in_before : (first s t : Standing) → LeftIn (record { first = first; rows = mid }) told' honest' leaves' s t → LeftIn (record { first = first; rows = rows }) told' honest' leaves' s t
     left_in_before first s t l = record { rows = if_so told' _ _ (λ now h. (began_before first h.0, h.1)) l.rows; stop = λ h some. l.stop h (still h some) }
 
-    run_before : (form : Form) (first : Standing) (left left' w w' : Option (List ℕ)) (status : Status) → RunEnds form first (LeftIn (record { first = first; rows = mid }) told' honest' leaves') left left' w w' status
-        → RunEnds form first (LeftIn (record { first = first; rows = rows }) told' honest' leaves') left left' w w' status
-    run_before form first = weaker_run form first _ _ (left_in_before first)
+    run_before : (form : Form) (every : ℕ) (first : Standing) (left left' w w' : Option (List ℕ)) (status : Status) → RunEnds form every first (LeftIn (record { first = first; rows = mid }) told' honest' leaves') left left' w w' status
+        → RunEnds form every first (LeftIn (record { first = first; rows = rows }) told' honest' leaves') left left' w w' status
+    run_before form every first = weaker_run form every first _ _ (left_in_before first)
 
     unbegun_before : (status : Status) → IsUnbegun status (AreSome mid told' honest') → IsUnbegun status (AreSome rows told' honest')
     unbegun_before Done h = absurd h
@@ -208,12 +184,12 @@ module _ (rows mid : Option (List Pair)) (honest' : Type 0) (same : Makes (λ be
     unresumed_before NotFound h = absurd h
     unresumed_before (NoPast base last) h = absurd h
 
-    went_on_before : (form : Form) (left left' w w' : Option (List ℕ)) (status : Status) → GoesOn form left left' w w' mid told' honest' leaves' status → GoesOn form left left' w w' rows told' honest' leaves' status
-    went_on_before form left left' w w' status g = record {
+    went_on_before : (form : Form) (every : ℕ) (left left' w w' : Option (List ℕ)) (status : Status) → GoesOn form every left left' w w' mid told' honest' leaves' status → GoesOn form every left left' w w' rows told' honest' leaves' status
+    went_on_before form every left left' w w' status g = record {
       first = g.first;
       storable = g.storable;
       loaded = loaded_before (λ now. AreStateRows now g.first) g.loaded;
-      ends = λ p storable alike. run_before form (Some p) left left' w w' status (g.ends p storable alike);
+      ends = λ p storable alike. run_before form every (Some p) left left' w w' status (g.ends p storable alike);
     }
 
     unmigrated_before : (status : Status) → IsUnmigrated status mid told' honest' at leaves' → IsUnmigrated status rows told' honest' leaves leaves'
@@ -230,21 +206,21 @@ module _ (rows mid : Option (List Pair)) (honest' : Type 0) (same : Makes (λ be
         by h left (inl may) = inl (back h left may)
         by h left (inr new) = inr new
 
-    replay_before : (form : Form) (left left' w w' : Option (List ℕ)) (status : Status) → ReplayEnds form (source_told left left') (sink_told w w') (keeper_told mid told' honest' at leaves') status → ReplayEnds form (source_told left left') (sink_told w w') (keeper_told rows told' honest' leaves leaves') status
-    replay_before form left left' w w' status (inl ends) = inl (run_before form None left left' w w' status ends)
-    replay_before form left left' w w' status (inr ends) = inr (unbegun_before status ends.0, ends.1, left_before ends.2)
+    replay_before : (form : Form) (every : ℕ) (left left' w w' : Option (List ℕ)) (status : Status) → ReplayEnds form every (source_told left left') (sink_told w w') (keeper_told mid told' honest' at leaves') status → ReplayEnds form every (source_told left left') (sink_told w w') (keeper_told rows told' honest' leaves leaves') status
+    replay_before form every left left' w w' status (inl ends) = inl (run_before form every None left left' w w' status ends)
+    replay_before form every left left' w w' status (inr ends) = inr (unbegun_before status ends.0, ends.1, left_before ends.2)
 
-    resume_before : (form : Form) (left left' w w' : Option (List ℕ)) (status : Status) → ResumeEnds form (source_told left left') (sink_told w w') (keeper_told mid told' honest' at leaves') status → ResumeEnds form (source_told left left') (sink_told w w') (keeper_told rows told' honest' leaves leaves') status
-    resume_before form left left' w w' status (inl g) = inl (went_on_before form left left' w w' status g)
-    resume_before form left left' w w' status (inr (inl ends)) = inr (inl (unresumed_before status ends.0, ends.1, left_before ends.2))
-    resume_before form left left' w w' status (inr (inr ends)) = inr (inr (unmigrated_before status ends.0, ends.1))
+    resume_before : (form : Form) (every : ℕ) (left left' w w' : Option (List ℕ)) (status : Status) → ResumeEnds form every (source_told left left') (sink_told w w') (keeper_told mid told' honest' at leaves') status → ResumeEnds form every (source_told left left') (sink_told w w') (keeper_told rows told' honest' leaves leaves') status
+    resume_before form every left left' w w' status (inl g) = inl (went_on_before form every left left' w w' status g)
+    resume_before form every left left' w w' status (inr (inl ends)) = inr (inl (unresumed_before status ends.0, ends.1, left_before ends.2))
+    resume_before form every left left' w w' status (inr (inr ends)) = inr (inr (unmigrated_before status ends.0, ends.1))
 
-    pub mode_before : (form : Form) (m : Mode) → IsCommitting m → (left left' w w' : Option (List ℕ)) (status : Status) → ModeEnds form m (source_told left left') (sink_told w w') (keeper_told mid told' honest' at leaves') status → ModeEnds form m (source_told left left') (sink_told w w') (keeper_told rows told' honest' leaves leaves') status
-    mode_before form Replay commits left left' w w' status ends = replay_before form left left' w w' status ends
-    mode_before form Resume commits left left' w w' status ends = resume_before form left left' w w' status ends
-    mode_before form (Query what) commits left left' w w' status ends = absurd commits
-    mode_before form Tally commits left left' w w' status ends = absurd commits
-    mode_before form Check commits left left' w w' status ends = absurd commits
-    mode_before form (Statement delegator operator) commits left left' w w' status ends = absurd commits
-    mode_before form (Gen seed count) commits left left' w w' status ends = absurd commits
-    mode_before form (Trial seed count) commits left left' w w' status ends = absurd commits
+    pub mode_before : (form : Form) (every : ℕ) (m : Mode) → IsCommitting m → (left left' w w' : Option (List ℕ)) (status : Status) → ModeEnds form every m (source_told left left') (sink_told w w') (keeper_told mid told' honest' at leaves') status → ModeEnds form every m (source_told left left') (sink_told w w') (keeper_told rows told' honest' leaves leaves') status
+    mode_before form every Replay commits left left' w w' status ends = replay_before form every left left' w w' status ends
+    mode_before form every Resume commits left left' w w' status ends = resume_before form every left left' w w' status ends
+    mode_before form every (Query what) commits left left' w w' status ends = absurd commits
+    mode_before form every Tally commits left left' w w' status ends = absurd commits
+    mode_before form every Check commits left left' w w' status ends = absurd commits
+    mode_before form every (Statement delegator operator) commits left left' w w' status ends = absurd commits
+    mode_before form every (Gen seed count) commits left left' w w' status ends = absurd commits
+    mode_before form every (Trial seed count) commits left left' w w' status ends = absurd commits

@@ -1,5 +1,5 @@
 -- What a stop may leave behind a run, whatever the status by which it ended.
-use Rattle.std.proofs.Common.{inl, inr, ◌≡◌, ◌∙◌, ◌⊎◌, ℕ, ◌+◌, List, [], ◌∷◌, ◌++◌, length, Option, Some, None, Ok, refl, sym, ap, subst, append_assoc, IfSome, IsSome, append-nil}
+use Rattle.std.proofs.Common.{inl, inr, ◌≡◌, ◌∙◌, ◌⊎◌, ℕ, ◌+◌, List, [], ◌∷◌, ◌++◌, length, Option, Some, None, Ok, refl, sym, ap, subst, append_assoc, IfSome, IsSome, append-nil, arith}
 use Rattle.base_bech32.specs.declared.form.Form.{Form}
 use Rattle.run_generated.specs.Writing.{IsFront}
 use Rattle.base_io.specs.{Outside.IsPart, Rows.Pair}
@@ -12,11 +12,11 @@ use Rattle.run_words.specs.declared.mode.Mode.TheVariants.{Replay, Resume, Query
 use Rattle.run_app.specs.declared.status.{LimitKind.TheVariants.{Line, Input, Ratio, Bound}, Status.Status}
 use Rattle.run_app.specs.declared.status.Status.TheVariants.{Done, Usage, BadInput, Limit, ReadFault, WriteFault, KeepFault, NoMemory, BadStore, WrongStore, NotFound, NoPast}
 use Rattle.run_app.specs.{declared.status.LineStop.LineStop, Kept.{AreLeft, AreRowsOf, LeftIn}}
-use Rattle.run_app.specs.{Lines.{lines_of, lines_from, whole_from, rest_from}, Machine.{Standing, line_answer}}
+use Rattle.run_app.specs.{Lines.{lines_of, lines_from, whole_from, rest_from}, Machine.Standing}
 use Rattle.run_app.specs.{Modes.{ModeEnds, ReplayEnds}, Outcome.{AreEnded, Ends, Passed, RunEnds}}
-use Rattle.run_app.specs.Runs.{AreAnswered, Named, Wrote, Unkept, Held, Answered, Reported, Lacking, Finished}
+use Rattle.run_app.specs.Runs.{AreAnswered, Batched, Named, Wrote, Unkept, Held, Answered, Reported, Lacking, Finished}
 use Rattle.run_app.specs.{Resumes.ResumeEnds, declared.performing.Way.{Way, TheVariants.{Plain, Kept, Past}}}
-use Rattle.run_app.specs.{Commands.{CommandStops, WayStops, way_of}, Stops.{AreRowsBehind, ModeStops, RunStops}}
+use Rattle.run_app.specs.{Commands.{CommandStops, WayStops, way_of}, Stops.{AreRowsBehind, LacksOfLast, ModeStops, RunStops}}
 use Rattle.run_app.specs.{Told.IsToldAs, Writes.Adds, Seen.{keeper_told, sink_told, source_told}}
 use Rattle.run_app.proofs.{CutLemmas.lines-append, RunLemmas.{answered-append, no_growth}}
 use Rattle.run_app.proofs.WholeLemmas.{Reports, reports}
@@ -41,10 +41,25 @@ ended_first lines taken rest (inr h) = ([], ap lines_of (ap (λ (r : List ℕ). 
 all_taken : (taken rest : List ℕ) → rest ≡ [] → lines_of (taken ++ rest) ≡ lines_of taken ++ []
 all_taken taken rest none = ap lines_of (ap (λ (r : List ℕ). taken ++ r) none ∙ append-nil taken) ∙ sym (append-nil (lines_of taken))
 
-pub one_more : (form : Form) (first : Standing) (before : List (List ℕ)) (line : List ℕ) (done : List ℕ) (middle : Standing) (answer : _) → AreAnswered form 1 first before done middle → line_answer form (1 + length before) middle line ≡ Ok answer → AreAnswered form 1 first (before ++ line ∷ []) (done ++ (answer.text ++ [])) answer.standing
-one_more form first before line done middle answer good is = answered-append form 1 first before (line ∷ []) done middle (answer.text ++ []) answer.standing good (answer, [], is, refl, (refl, refl))
+-- all answers were written
+pub none_lacks : (form : Form) (every : ℕ) (first : Standing) (lines : List (List ℕ)) (text : List ℕ) (end : Standing) → AreAnswered form 1 first lines text end → LacksOfLast form every first lines text []
+none_lacks form every first lines text end good = record {
+  before = lines;
+  last = [];
+  middle = end;
+  end = end;
+  done = text;
+  due = [];
+  front = [];
+  lines_are = sym (append-nil lines);
+  few = omega arith;
+  answered = good;
+  answered_last = (refl, refl);
+  text_is = sym (append-nil text);
+  due_lacks = refl;
+}
 
-module _ (form : Form) (first : Standing) (input : List ℕ) (left : List Pair) (L : Standing → Standing → Type 0) (stop : (s t : Standing) → L s t → AreRowsOf left s ⊎ AreRowsOf left t) where
+module _ (form : Form) (every : ℕ) (first : Standing) (input : List ℕ) (left : List Pair) (L : Standing → Standing → Type 0) (stop : (s t : Standing) → L s t → AreRowsOf left s ⊎ AreRowsOf left t) where
   -- where one and the same standing may be left
   only : (s : Standing) → L s s → AreRowsOf left s
   only s l = onlywith (stop s s l) where
@@ -53,46 +68,49 @@ module _ (form : Form) (first : Standing) (input : List ℕ) (left : List Pair) 
     onlywith (inr e) = e
 
   -- the texts of these lines were written
-  just : (lines more : List (List ℕ)) (text : List ℕ) (end : Standing) → lines_of input ≡ lines ++ more → AreAnswered form 1 first lines text end → AreRowsOf left end → AreRowsBehind form first input text left
-  just lines more text end are good is = record { lines = lines; more = more; end = end; answers = text; lines_are = are; answered = good; kept = is; written = inl refl }
+  just : (lines more : List (List ℕ)) (text : List ℕ) (end : Standing) → lines_of input ≡ lines ++ more → AreAnswered form 1 first lines text end → AreRowsOf left end → AreRowsBehind form every first input text left
+  just lines more text end are good is = record { lines = lines; more = more; end = end; answers = text; lines_are = are; answered = good; kept = is; written = inl ([], none_lacks form every first lines text end good) }
 
-  named : (lines more : List (List ℕ)) (text : List ℕ) (fault : LineStop) → lines_of input ≡ lines ++ more → Named form L 1 first lines text fault → AreRowsBehind form first input text left
+  named : (lines more : List (List ℕ)) (text : List ℕ) (fault : LineStop) → lines_of input ≡ lines ++ more → Named form L 1 first lines text fault → AreRowsBehind form every first input text left
   named lines more text fault are w = just w.before (w.line ∷ (w.after ++ more)) text w.middle (are ∙ ap (λ (l : List (List ℕ)). l ++ more) w.lines_are ∙ append_assoc w.before (w.line ∷ w.after) more) w.answered (only w.middle w.left)
 
-  -- the line of this answer was committed, and a front of its text was written
-  behind_one : (lines more before after : List (List ℕ)) (line : List ℕ) (text done front : List ℕ) (middle : Standing) (answer : _) → lines_of input ≡ lines ++ more → lines ≡ before ++ line ∷ after → AreAnswered form 1 first before done middle → line_answer form (1 + length before) middle line ≡ Ok answer
-      → text ≡ done ++ front → IsFront front answer.text → AreRowsOf left answer.standing → AreRowsBehind form first input text left
-  behind_one lines more before after line text done front middle answer are lines_are good is text_is part kept_is = record {
-    lines = before ++ line ∷ [];
-    more = after ++ more;
-    end = answer.standing;
-    answers = done ++ (answer.text ++ []);
-    lines_are = are ∙ ap (λ (l : List (List ℕ)). l ++ more) lines_are ∙ append_assoc before (line ∷ after) more ∙ sym (append_assoc before (line ∷ []) (after ++ more));
-    answered = one_more form first before line done middle answer good is;
+  regroup : (a b c d : List (List ℕ)) → (a ++ (b ++ c)) ++ d ≡ (a ++ b) ++ (c ++ d)
+  regroup a b c d = simp append_assoc
+
+  -- the batch was committed, and a front of its texts was written
+  ahead : (lines more : List (List ℕ)) (text done : List ℕ) (middle : Standing) (due : List ℕ) (end : Standing) (front lacking : List ℕ) → lines_of input ≡ lines ++ more → Batched form every 1 first lines done middle due end → AreRowsOf left end → text ≡ done ++ front → due ≡ front ++ lacking → AreRowsBehind form every first input text left
+  ahead lines more text done middle due end front lacking are b kept_is text_is due_is = record {
+    lines = b.before ++ b.batch;
+    more = b.after ++ more;
+    end = end;
+    answers = done ++ due;
+    lines_are = are ∙ ap (λ (l : List (List ℕ)). l ++ more) b.lines_are ∙ regroup b.before b.batch b.after more;
+    answered = answered-append form 1 first b.before b.batch done middle due end b.answered b.answered_batch;
     kept = kept_is;
-    written = inr (inl (part.rest, record { before = before; line = line; middle = middle; answer = answer; done = done; front = front; lines_are = refl; answered = good; answer_is = is; text_is = text_is; answer_lacks = part.text_is }));
+    written = inl (lacking, record { before = b.before; last = b.batch; middle = middle; end = end; done = done; due = due; front = front; lines_are = refl; few = b.few; answered = b.answered; answered_last = b.answered_batch; text_is = text_is; due_lacks = due_is });
   }
 
-  wrote : (lines more : List (List ℕ)) (text : List ℕ) → lines_of input ≡ lines ++ more → Wrote form L 1 first lines text → AreRowsBehind form first input text left
-  wrote lines more text are w = behind_one lines more w.before w.after w.line text w.done w.front w.middle w.answer are w.lines_are w.answered w.answer_is w.text_is (part_of w.front w.answer.text w.part) (only w.answer.standing w.left)
+  wrote : (lines more : List (List ℕ)) (text : List ℕ) → lines_of input ≡ lines ++ more → Wrote form every L 1 first lines text → AreRowsBehind form every first input text left
+  wrote lines more text are w = ahead lines more text w.done w.middle w.due w.end w.front w.part.rest are w.batched (only w.end w.left) w.text_is w.part.bytes_are
 
   -- what was to be committed may be there or not
-  unkept : (lines more : List (List ℕ)) (text : List ℕ) → lines_of input ≡ lines ++ more → Unkept form L 1 first lines text → AreRowsBehind form first input text left
-  unkept lines more text are w = unkeptwith (stop w.middle w.answer.standing w.left) where
-    unkeptwith : AreRowsOf left w.middle ⊎ AreRowsOf left w.answer.standing → AreRowsBehind form first input text left
-    unkeptwith (inl e) = just w.before (w.line ∷ (w.after ++ more)) text w.middle (are ∙ ap (λ (l : List (List ℕ)). l ++ more) w.lines_are ∙ append_assoc w.before (w.line ∷ w.after) more) w.answered e
-    unkeptwith (inr e) = behind_one lines more w.before w.after w.line text text [] w.middle w.answer are w.lines_are w.answered w.answer_is (sym (append-nil text)) (record { rest = w.answer.text; text_is = refl }) e
+  unkept : (lines more : List (List ℕ)) (text : List ℕ) → lines_of input ≡ lines ++ more → Unkept form every L 1 first lines text → AreRowsBehind form every first input text left
+  unkept lines more text are w = by (stop w.middle w.end w.left)
+    where
+      by : AreRowsOf left w.middle ⊎ AreRowsOf left w.end → AreRowsBehind form every first input text left
+      by (inl e) = just w.batched.before ((w.batched.batch ++ w.batched.after) ++ more) text w.middle (are ∙ ap (λ (l : List (List ℕ)). l ++ more) w.batched.lines_are ∙ append_assoc w.batched.before (w.batched.batch ++ w.batched.after) more) w.batched.answered e
+      by (inr e) = ahead lines more text text w.middle w.due w.end [] w.due are w.batched e (sym (append-nil text)) refl
 
-  held : (lines more : List (List ℕ)) (text : List ℕ) → lines_of input ≡ lines ++ more → Held form L 1 first lines text → AreRowsBehind form first input text left
+  held : (lines more : List (List ℕ)) (text : List ℕ) → lines_of input ≡ lines ++ more → Held form L 1 first lines text → AreRowsBehind form every first input text left
   held lines more text are w = just w.before (w.after ++ more) text w.middle (are ∙ ap (λ (l : List (List ℕ)). l ++ more) w.lines_are ∙ append_assoc w.before w.after more) w.answered (only w.middle w.left)
 
-  answered : (lines more : List (List ℕ)) (text : List ℕ) → lines_of input ≡ lines ++ more → Answered form L 1 first lines text → AreRowsBehind form first input text left
+  answered : (lines more : List (List ℕ)) (text : List ℕ) → lines_of input ≡ lines ++ more → Answered form L 1 first lines text → AreRowsBehind form every first input text left
   answered lines more text are w = just lines more text w.end are w.answered (only w.end w.left)
 
-  lacking : (lines more : List (List ℕ)) (text : List ℕ) (fault : LineStop) → lines_of input ≡ lines ++ more → Lacking form L 1 first lines text fault → AreRowsBehind form first input text left
+  lacking : (lines more : List (List ℕ)) (text : List ℕ) (fault : LineStop) → lines_of input ≡ lines ++ more → Lacking form L 1 first lines text fault → AreRowsBehind form every first input text left
   lacking lines more text fault are w = just lines more text w.end are w.answered (only w.end w.left)
 
-  reported : (lines : List (List ℕ)) (text : List ℕ) → lines_of input ≡ lines ++ [] → Reported form L 1 first lines text → AreRowsBehind form first input text left
+  reported : (lines : List (List ℕ)) (text : List ℕ) → lines_of input ≡ lines ++ [] → Reported form L 1 first lines text → AreRowsBehind form every first input text left
   reported lines text are w = record {
     lines = lines;
     more = [];
@@ -101,7 +119,7 @@ module _ (form : Form) (first : Standing) (input : List ℕ) (left : List Pair) 
     lines_are = are;
     answered = w.answered;
     kept = only w.end w.left;
-    written = inr (inr (refl, record { report = w.report; front = w.front; report_is = w.report_is; part = part_of w.front w.report w.part; text_is = w.text_is }));
+    written = inr (refl, record { report = w.report; front = w.front; report_is = w.report_is; part = part_of w.front w.report w.part; text_is = w.text_is });
   }
 
   -- the standing to which lines lead is one
@@ -112,7 +130,7 @@ module _ (form : Form) (first : Standing) (input : List ℕ) (left : List Pair) 
       let same2 : g.0 ≡ h.0 = cc in
       one_end (n + 1) h.0.standing lines g.1 h.1 e f (subst (λ (x : _). AreAnswered form (n + 1) x.standing lines g.1 e) same2 g.4) h.4
 
-  finished : (lines : List (List ℕ)) (text : List ℕ) → lines_of input ≡ lines ++ [] → Finished form L 1 first lines text → AreRowsBehind form first input text left
+  finished : (lines : List (List ℕ)) (text : List ℕ) → lines_of input ≡ lines ++ [] → Finished form L 1 first lines text → AreRowsBehind form every first input text left
   finished lines text are w =
       let r : Reports form 1 first lines text = reports form lines 1 first text w.ran in
       record {
@@ -123,10 +141,10 @@ module _ (form : Form) (first : Standing) (input : List ℕ) (left : List Pair) 
         lines_are = are;
         answered = r.answered;
         kept = subst (AreRowsOf left) (one_end 1 first lines w.done r.done w.end r.end w.answered r.answered) (only w.end w.left);
-        written = inr (inr (refl, record { report = r.last; front = r.last; report_is = r.report_is; part = all_of r.last; text_is = r.text_is }));
+        written = inr (refl, record { report = r.last; front = r.last; report_is = r.report_is; part = all_of r.last; text_is = r.text_is });
       }
 
-  passed : (n : ℕ) (taken rest text : List ℕ) → input ≡ taken ++ rest → Passed form first L n taken text → AreRowsBehind form first input text left
+  passed : (n : ℕ) (taken rest text : List ℕ) → input ≡ taken ++ rest → Passed form first L n taken text → AreRowsBehind form every first input text left
   passed n taken rest text are p =
       let whole : input ≡ p.bytes ++ (p.byte ∷ rest) = are ∙ ap (λ (t : List ℕ). t ++ rest) p.taken_is ∙ append_assoc p.bytes (p.byte ∷ []) rest in
       answered (whole_from [] p.bytes) (lines_from (rest_from [] p.bytes) (p.byte ∷ rest)) text (ap lines_of whole ∙ lines-append p.bytes [] (p.byte ∷ rest)) p.answered
@@ -141,7 +159,7 @@ module _ (form : Form) (first : Standing) (input : List ℕ) (left : List Pair) 
     whole : rest ≡ [] → lines_of input ≡ lines_of taken ++ []
     whole none = here (lines_of taken) [] (all_taken taken rest none)
 
-    pub stopped : (status : Status) → Ends form first L taken rest status text → AreRowsBehind form first input text left
+    pub stopped : (status : Status) → Ends form every first L taken rest status text → AreRowsBehind form every first input text left
     stopped Done h = finished (lines_of taken) text (whole h.0) h.2
     stopped Usage h = absurd h
     stopped (BadInput n fault) (short, inl h) = let m = ended h.0 h.1 in named h.0 m.0 text _ m.1 h.2
@@ -165,13 +183,13 @@ module _ (form : Form) (first : Standing) (input : List ℕ) (left : List Pair) 
     stopped (NoPast base last) h = absurd h
 
 -- so of a run over a keeper that is honest to its end, whose rows were told as it began
-pub run_stops : (form : Form) (first : Standing) (left left' written written' : Option (List ℕ)) (rows told : Option (List Pair)) (honest : Type 0) (leaves leaves' : List Pair → Type 0) (status : Status) → RunEnds form first (LeftIn (record { first = first; rows = rows }) told honest leaves') left left' written written' status → RunStops form first left written written' rows honest leaves leaves'
-run_stops form first left left' written written' rows told honest leaves leaves' status e = λ good some. (
+pub run_stops : (form : Form) (every : ℕ) (first : Standing) (left left' written written' : Option (List ℕ)) (rows told : Option (List Pair)) (honest : Type 0) (leaves leaves' : List Pair → Type 0) (status : Status) → RunEnds form every first (LeftIn (record { first = first; rows = rows }) told honest leaves') left left' written written' status → RunStops form every first left written written' rows honest leaves leaves'
+run_stops form every first left left' written written' rows told honest leaves leaves' status e = λ good some. (
   e.0 ++ e.1,
   e.2,
   (λ input is. (e.3 input is).0),
   e.4,
-  λ now may. inr (stopped form first (e.0 ++ e.1) now (LeftIn (record { first = first; rows = rows }) told honest leaves') (λ s t l. l.stop good some now may) e.0 e.1 e.2 refl status e.5),
+  λ now may. inr (stopped form every first (e.0 ++ e.1) now (LeftIn (record { first = first; rows = rows }) told honest leaves') (λ s t l. l.stop good some now may) e.0 e.1 e.2 refl status e.5),
 )
 
 -- there is an input
@@ -180,27 +198,27 @@ told_input None = ([], λ told is. absurd cc)
 told_input (Some input) = (input, λ told is. let same : input ≡ told = cc in sym same)
 
 -- and of one that did not begin
-pub unbegun_stops : (form : Form) (first : Standing) (left written written' : Option (List ℕ)) (rows told : Option (List Pair)) (honest : Type 0) (leaves leaves' : List Pair → Type 0) → Adds written written' (λ text. text ≡ []) → AreLeft (keeper_told rows told honest leaves leaves') → RunStops form first left written written' rows honest leaves leaves'
-unbegun_stops form first left written written' rows told honest leaves leaves' adds are = λ good some.
+pub unbegun_stops : (form : Form) (every : ℕ) (first : Standing) (left written written' : Option (List ℕ)) (rows told : Option (List Pair)) (honest : Type 0) (leaves leaves' : List Pair → Type 0) → Adds written written' (λ text. text ≡ []) → AreLeft (keeper_told rows told honest leaves leaves') → RunStops form every first left written written' rows honest leaves leaves'
+unbegun_stops form every first left written written' rows told honest leaves leaves' adds are = λ good some.
     let i = told_input left in
     (i.0, adds.0, i.1, adds.1, λ now may. inl (are.stop good now may, adds.2))
 
-pub replay_stops : (form : Form) (left left' written written' : Option (List ℕ)) (rows rows' : Option (List Pair)) (honest' : Type 0) (leaves leaves' : List Pair → Type 0) (status : Status) → ReplayEnds form (source_told left left') (sink_told written written') (keeper_told rows rows' honest' leaves leaves') status → RunStops form None left written written' rows honest' leaves leaves'
-replay_stops form left left' written written' rows rows' honest' leaves leaves' status (inl ends) = run_stops form None left left' written written' rows rows' honest' leaves leaves' status ends
-replay_stops form left left' written written' rows rows' honest' leaves leaves' status (inr (why, same, are)) = unbegun_stops form None left written written' rows rows' honest' leaves leaves' same.1 are
+pub replay_stops : (form : Form) (every : ℕ) (left left' written written' : Option (List ℕ)) (rows rows' : Option (List Pair)) (honest' : Type 0) (leaves leaves' : List Pair → Type 0) (status : Status) → ReplayEnds form every (source_told left left') (sink_told written written') (keeper_told rows rows' honest' leaves leaves') status → RunStops form every None left written written' rows honest' leaves leaves'
+replay_stops form every left left' written written' rows rows' honest' leaves leaves' status (inl ends) = run_stops form every None left left' written written' rows rows' honest' leaves leaves' status ends
+replay_stops form every left left' written written' rows rows' honest' leaves leaves' status (inr (why, same, are)) = unbegun_stops form every None left written written' rows rows' honest' leaves leaves' same.1 are
 
 -- and of one that did not bring the rows of a state to the format that is written
-module _ (form : Form) (p first : State) (storable : IsStorable p) (storable_too : IsStorable first) (alike : HaveSameRows p first) where
+module _ (form : Form) (every : ℕ) (p first : State) (storable : IsStorable p) (storable_too : IsStorable first) (alike : HaveSameRows p first) where
   brought_rows : (left : List Pair) → left ≡ rows_of first → AreRowsOf left (Some p)
   brought_rows left is = (is ∙ sym (formats_same p first storable storable_too alike Second), storable.stored)
 
   unmigrated_stops : (left written written' : Option (List ℕ)) (rows : Option (List Pair)) (honest : Type 0) (leaves leaves' : List Pair → Type 0) → Adds written written' (λ text. text ≡ [])
-      → (honest → IsSome rows → (now : List Pair) → leaves' now → leaves now ⊎ (now ≡ rows_of first)) → RunStops form (Some p) left written written' rows honest leaves leaves'
+      → (honest → IsSome rows → (now : List Pair) → leaves' now → leaves now ⊎ (now ≡ rows_of first)) → RunStops form every (Some p) left written written' rows honest leaves leaves'
   unmigrated_stops left written written' rows honest leaves leaves' adds stop = λ good some.
       let i = told_input left in
       (i.0, adds.0, i.1, adds.1, λ now may. by i.0 adds.0 adds.2 now (stop good some now may))
     where
-      by : (input text : List ℕ) → text ≡ [] → (now : List Pair) → leaves now ⊎ (now ≡ rows_of first) → (leaves now × (text ≡ [])) ⊎ AreRowsBehind form (Some p) input text now
+      by : (input text : List ℕ) → text ≡ [] → (now : List Pair) → leaves now ⊎ (now ≡ rows_of first) → (leaves now × (text ≡ [])) ⊎ AreRowsBehind form every (Some p) input text now
       by input text none now (inl may) = inl (may, none)
       by input text none now (inr is) = inr (record {
         lines = [];
@@ -210,48 +228,48 @@ module _ (form : Form) (p first : State) (storable : IsStorable p) (storable_too
         lines_are = refl;
         answered = (refl, refl);
         kept = brought_rows now is;
-        written = inl none;
+        written = inl ([], subst (λ (t : List ℕ). LacksOfLast form every (Some p) [] t []) (sym none) (none_lacks form every (Some p) [] [] (Some p) (refl, refl)));
       })
 
-resume_stops : (form : Form) (left left' written written' : Option (List ℕ)) (rows rows' : Option (List Pair)) (honest' : Type 0) (leaves leaves' : List Pair → Type 0) (status : Status) → ResumeEnds form (source_told left left') (sink_told written written') (keeper_told rows rows' honest' leaves leaves') status → (f : Format) (p : State) → IsStorable p → rows ≡ Some (state_rows f p) → RunStops form (Some p) left written written' rows honest' leaves leaves'
-resume_stops form left left' written written' rows rows' honest' leaves leaves' status (inl goes) = λ f p storable told good some.
+resume_stops : (form : Form) (every : ℕ) (left left' written written' : Option (List ℕ)) (rows rows' : Option (List Pair)) (honest' : Type 0) (leaves leaves' : List Pair → Type 0) (status : Status) → ResumeEnds form every (source_told left left') (sink_told written written') (keeper_told rows rows' honest' leaves leaves') status → (f : Format) (p : State) → IsStorable p → rows ≡ Some (state_rows f p) → RunStops form every (Some p) left written written' rows honest' leaves leaves'
+resume_stops form every left left' written written' rows rows' honest' leaves leaves' status (inl goes) = λ f p storable told good some.
     let of : AreStateRows (state_rows f p) goes.first = subst (λ (r : Option (List Pair)). IfSome r (λ now. AreStateRows now goes.first)) told (goes.loaded good) in
-    run_stops form (Some p) left left' written written' rows rows' honest' leaves leaves' status (goes.ends p storable (state_rows f p, (f, refl), of)) good some
-resume_stops form left left' written written' rows rows' honest' leaves leaves' status (inr (inl (why, same, are))) = λ f p storable told. unbegun_stops form (Some p) left written written' rows rows' honest' leaves leaves' same.1 are
-resume_stops form left left' written written' rows rows' honest' leaves leaves' status (inr (inr (none, same))) = λ f p storable told good some.
+    run_stops form every (Some p) left left' written written' rows rows' honest' leaves leaves' status (goes.ends p storable (state_rows f p, (f, refl), of)) good some
+resume_stops form every left left' written written' rows rows' honest' leaves leaves' status (inr (inl (why, same, are))) = λ f p storable told. unbegun_stops form every (Some p) left written written' rows rows' honest' leaves leaves' same.1 are
+resume_stops form every left left' written written' rows rows' honest' leaves leaves' status (inr (inr (none, same))) = λ f p storable told good some.
     let of : state_rows f p ≡ state_rows First none.first = subst (λ (r : Option (List Pair)). IfSome r (λ now. now ≡ state_rows First none.first)) told (none.loaded good) in
-    unmigrated_stops form p none.first storable none.storable (state_rows f p, (f, refl), (First, of)) left written written' rows honest' leaves leaves' same.1 none.stop good some
+    unmigrated_stops form every p none.first storable none.storable (state_rows f p, (f, refl), (First, of)) left written written' rows honest' leaves leaves' same.1 none.stop good some
 
 -- so of each command
-pub mode_stops : (form : Form) (mode : Mode) (left left' written written' : Option (List ℕ)) (rows rows' : Option (List Pair)) (honest' : Type 0) (leaves leaves' : List Pair → Type 0) (status : Status) → ModeEnds form mode (source_told left left') (sink_told written written') (keeper_told rows rows' honest' leaves leaves') status → ModeStops form mode left written written' rows honest' leaves leaves'
-mode_stops form Replay left left' written written' rows rows' honest' leaves leaves' status ends = replay_stops form left left' written written' rows rows' honest' leaves leaves' status ends
-mode_stops form Resume left left' written written' rows rows' honest' leaves leaves' status ends = resume_stops form left left' written written' rows rows' honest' leaves leaves' status ends
-mode_stops form (Query what) left left' written written' rows rows' honest' leaves leaves' status ends = λ good now may. ends.1.0.stop good now may
-mode_stops form Tally left left' written written' rows rows' honest' leaves leaves' status ends = λ good now may. ends.0.stop good now may
-mode_stops form Check left left' written written' rows rows' honest' leaves leaves' status ends = λ good now may. ends.1.stop now may
-mode_stops form (Statement delegator operator) left left' written written' rows rows' honest' leaves leaves' status ends = λ good now may. ends.1.stop now may
-mode_stops form (Gen seed count) left left' written written' rows rows' honest' leaves leaves' status ends = λ good now may. ends.1.stop now may
-mode_stops form (Trial seed count) left left' written written' rows rows' honest' leaves leaves' status ends = λ good now may. ends.1.stop now may
+pub mode_stops : (form : Form) (every : ℕ) (mode : Mode) (left left' written written' : Option (List ℕ)) (rows rows' : Option (List Pair)) (honest' : Type 0) (leaves leaves' : List Pair → Type 0) (status : Status) → ModeEnds form every mode (source_told left left') (sink_told written written') (keeper_told rows rows' honest' leaves leaves') status → ModeStops form every mode left written written' rows honest' leaves leaves'
+mode_stops form every Replay left left' written written' rows rows' honest' leaves leaves' status ends = replay_stops form every left left' written written' rows rows' honest' leaves leaves' status ends
+mode_stops form every Resume left left' written written' rows rows' honest' leaves leaves' status ends = resume_stops form every left left' written written' rows rows' honest' leaves leaves' status ends
+mode_stops form every (Query what) left left' written written' rows rows' honest' leaves leaves' status ends = λ good now may. ends.1.0.stop good now may
+mode_stops form every Tally left left' written written' rows rows' honest' leaves leaves' status ends = λ good now may. ends.0.stop good now may
+mode_stops form every Check left left' written written' rows rows' honest' leaves leaves' status ends = λ good now may. ends.1.stop now may
+mode_stops form every (Statement delegator operator) left left' written written' rows rows' honest' leaves leaves' status ends = λ good now may. ends.1.stop now may
+mode_stops form every (Gen seed count) left left' written written' rows rows' honest' leaves leaves' status ends = λ good now may. ends.1.stop now may
+mode_stops form every (Trial seed count) left left' written written' rows rows' honest' leaves leaves' status ends = λ good now may. ends.1.stop now may
 
 -- where nothing was called, a stop leaves what it could leave before
-still : (form : Form) (first : Standing) (left written : Option (List ℕ)) (rows : Option (List Pair)) (honest : Type 0) (leaves : List Pair → Type 0) → RunStops form first left written written rows honest leaves leaves
-still form first left written rows honest leaves = λ good some. let i = told_input left in (i.0, [], i.1, no_growth written, λ now may. inl (may, refl))
+still : (form : Form) (every : ℕ) (first : Standing) (left written : Option (List ℕ)) (rows : Option (List Pair)) (honest : Type 0) (leaves : List Pair → Type 0) → RunStops form every first left written written rows honest leaves leaves
+still form every first left written rows honest leaves = λ good some. let i = told_input left in (i.0, [], i.1, no_growth written, λ now may. inl (may, refl))
 
-mode_unbegun : (form : Form) (mode : Mode) (left written : Option (List ℕ)) (rows : Option (List Pair)) (honest : Type 0) (leaves : List Pair → Type 0) → ModeStops form mode left written written rows honest leaves leaves
-mode_unbegun form Replay left written rows honest leaves = still form None left written rows honest leaves
-mode_unbegun form Resume left written rows honest leaves = λ f p storable told. still form (Some p) left written rows honest leaves
-mode_unbegun form (Query what) left written rows honest leaves = λ good now may. may
-mode_unbegun form Tally left written rows honest leaves = λ good now may. may
-mode_unbegun form Check left written rows honest leaves = λ good now may. may
-mode_unbegun form (Statement delegator operator) left written rows honest leaves = λ good now may. may
-mode_unbegun form (Gen seed count) left written rows honest leaves = λ good now may. may
-mode_unbegun form (Trial seed count) left written rows honest leaves = λ good now may. may
+mode_unbegun : (form : Form) (every : ℕ) (mode : Mode) (left written : Option (List ℕ)) (rows : Option (List Pair)) (honest : Type 0) (leaves : List Pair → Type 0) → ModeStops form every mode left written written rows honest leaves leaves
+mode_unbegun form every Replay left written rows honest leaves = still form every None left written rows honest leaves
+mode_unbegun form every Resume left written rows honest leaves = λ f p storable told. still form every (Some p) left written rows honest leaves
+mode_unbegun form every (Query what) left written rows honest leaves = λ good now may. may
+mode_unbegun form every Tally left written rows honest leaves = λ good now may. may
+mode_unbegun form every Check left written rows honest leaves = λ good now may. may
+mode_unbegun form every (Statement delegator operator) left written rows honest leaves = λ good now may. may
+mode_unbegun form every (Gen seed count) left written rows honest leaves = λ good now may. may
+mode_unbegun form every (Trial seed count) left written rows honest leaves = λ good now may. may
 
-way_unbegun : (form : Form) (way : Way) (left written : Option (List ℕ)) (rows : Option (List Pair)) (honest : Type 0) (leaves : List Pair → Type 0) → WayStops form way left written written rows honest leaves leaves
-way_unbegun form (Plain m) left written rows honest leaves = mode_unbegun form m left written rows honest leaves
-way_unbegun form (Kept m) left written rows honest leaves = mode_unbegun form m left written (shown rows) honest (ShowsLeft leaves)
-way_unbegun form (Past height what) left written rows honest leaves = λ good now may. may
+way_unbegun : (form : Form) (every : ℕ) (way : Way) (left written : Option (List ℕ)) (rows : Option (List Pair)) (honest : Type 0) (leaves : List Pair → Type 0) → WayStops form every way left written written rows honest leaves leaves
+way_unbegun form every (Plain m) left written rows honest leaves = mode_unbegun form every m left written rows honest leaves
+way_unbegun form every (Kept m) left written rows honest leaves = mode_unbegun form 1 m left written (shown rows) honest (ShowsLeft leaves)
+way_unbegun form every (Past height what) left written rows honest leaves = λ good now may. may
 
 pub stops_unbegun : (o : Option Command) (left written : Option (List ℕ)) (rows : Option (List Pair)) (honest : Type 0) (leaves : List Pair → Type 0) → CommandStops o left written written rows honest leaves leaves
 stops_unbegun None left written rows honest leaves = λ good now may. may
-stops_unbegun (Some c) left written rows honest leaves = way_unbegun c.form (way_of c) left written rows honest leaves
+stops_unbegun (Some c) left written rows honest leaves = way_unbegun c.form c.every (way_of c) left written rows honest leaves

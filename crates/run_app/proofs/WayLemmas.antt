@@ -77,31 +77,31 @@ shown_left : (rows rows' : Option (List Pair)) (honest' : Type 0) (leaves leaves
 shown_left rows rows' honest' leaves leaves' are = record { rows_are = shown_makes (λ ps. ps) (λ ps. ps) rows rows' (λ ps is. refl) are.rows_are; stop = λ h. shown_stop leaves leaves' (are.stop h) }
 
 -- a run over the visible rows that a load left is one over those before it
-pub kept_before : (form : Form) (m : Mode) → IsCommitting m → (left left' w w' : Option (List ℕ)) (rows mid told' : Option (List Pair)) (honest between : Type 0) (leaves at leaves' : List Pair → Type 0) (s : Status)
+pub kept_before : (form : Form) (every : ℕ) (m : Mode) → IsCommitting m → (left left' w w' : Option (List ℕ)) (rows mid told' : Option (List Pair)) (honest between : Type 0) (leaves at leaves' : List Pair → Type 0) (s : Status)
     → Makes (λ before. before) rows mid → (between → IsSome rows → IsSome mid) → (between → (l : List Pair) → at l → leaves l) → (honest → between)
-    → ModeEnds form m (source_told left left') (sink_told w w') (keeper_told (shown mid) (shown told') honest (ShowsLeft at) (ShowsLeft leaves')) s → ModeEnds form m (source_told left left') (sink_told w w') (keeper_told (shown rows) (shown told') honest (ShowsLeft leaves) (ShowsLeft leaves')) s
-kept_before form m commits left left' w w' rows mid told' honest between leaves at leaves' s same still back later ends =
+    → ModeEnds form every m (source_told left left') (sink_told w w') (keeper_told (shown mid) (shown told') honest (ShowsLeft at) (ShowsLeft leaves')) s → ModeEnds form every m (source_told left left') (sink_told w w') (keeper_told (shown rows) (shown told') honest (ShowsLeft leaves) (ShowsLeft leaves')) s
+kept_before form every m commits left left' w w' rows mid told' honest between leaves at leaves' s same still back later ends =
     mode_before (shown rows) (shown mid) honest (shown_makes (λ ps. ps) (λ ps. ps) rows mid (λ ps is. refl) same) (λ h some. shown_some mid (still (later h) (some_shown rows some))) (shown told') (ShowsLeft leaves) (ShowsLeft at) (ShowsLeft leaves')
-    (λ h. shown_stop leaves at (back (later h))) form m commits left left' w w' s ends
+    (λ h. shown_stop leaves at (back (later h))) form every m commits left left' w w' s ends
 
 -- ---- what a stop leaves
 
-unopened_stops : (form : Form) (m : Mode) (left w w' : Option (List ℕ)) (rows rows' : Option (List Pair)) (honest' : Type 0) (leaves leaves' : List Pair → Type 0) → Adds w w' (λ text. text ≡ []) → AreLeft (keeper_told rows rows' honest' leaves leaves') → ModeStops form m left w w' rows honest' leaves leaves'
-unopened_stops form Replay left w w' rows rows' honest' leaves leaves' none are = unbegun_stops form None left w w' rows rows' honest' leaves leaves' none are
-unopened_stops form Resume left w w' rows rows' honest' leaves leaves' none are = λ f p storable told. unbegun_stops form (Some p) left w w' rows rows' honest' leaves leaves' none are
-unopened_stops form (Query what) left w w' rows rows' honest' leaves leaves' none are = λ good now may. are.stop good now may
-unopened_stops form Tally left w w' rows rows' honest' leaves leaves' none are = λ good now may. are.stop good now may
-unopened_stops form Check left w w' rows rows' honest' leaves leaves' none are = λ good now may. are.stop good now may
-unopened_stops form (Statement delegator operator) left w w' rows rows' honest' leaves leaves' none are = λ good now may. are.stop good now may
-unopened_stops form (Gen seed count) left w w' rows rows' honest' leaves leaves' none are = λ good now may. are.stop good now may
-unopened_stops form (Trial seed count) left w w' rows rows' honest' leaves leaves' none are = λ good now may. are.stop good now may
+unopened_stops : (form : Form) (every : ℕ) (m : Mode) (left w w' : Option (List ℕ)) (rows rows' : Option (List Pair)) (honest' : Type 0) (leaves leaves' : List Pair → Type 0) → Adds w w' (λ text. text ≡ []) → AreLeft (keeper_told rows rows' honest' leaves leaves') → ModeStops form every m left w w' rows honest' leaves leaves'
+unopened_stops form every Replay left w w' rows rows' honest' leaves leaves' none are = unbegun_stops form every None left w w' rows rows' honest' leaves leaves' none are
+unopened_stops form every Resume left w w' rows rows' honest' leaves leaves' none are = λ f p storable told. unbegun_stops form every (Some p) left w w' rows rows' honest' leaves leaves' none are
+unopened_stops form every (Query what) left w w' rows rows' honest' leaves leaves' none are = λ good now may. are.stop good now may
+unopened_stops form every Tally left w w' rows rows' honest' leaves leaves' none are = λ good now may. are.stop good now may
+unopened_stops form every Check left w w' rows rows' honest' leaves leaves' none are = λ good now may. are.stop good now may
+unopened_stops form every (Statement delegator operator) left w w' rows rows' honest' leaves leaves' none are = λ good now may. are.stop good now may
+unopened_stops form every (Gen seed count) left w w' rows rows' honest' leaves leaves' none are = λ good now may. are.stop good now may
+unopened_stops form every (Trial seed count) left w w' rows rows' honest' leaves leaves' none are = λ good now may. are.stop good now may
 
-pub way_stops : (form : Form) (way : Way) (left left' w w' : Option (List ℕ)) (rows rows' : Option (List Pair)) (honest' : Type 0) (leaves leaves' : List Pair → Type 0) (s : Status) → WayEnds form way (source_told left left') (sink_told w w') (keeper_told rows rows' honest' leaves leaves') s → WayStops form way left w w' rows honest' leaves leaves'
-way_stops form (Plain m) left left' w w' rows rows' honest' leaves leaves' s ends = mode_stops form m left left' w w' rows rows' honest' leaves leaves' s ends
-way_stops form (Kept m) left left' w w' rows rows' honest' leaves leaves' s (inl k) = mode_stops form m left left' w w' (shown rows) (shown rows') honest' (ShowsLeft leaves) (ShowsLeft leaves') s k.ends
-way_stops form (Kept m) left left' w w' rows rows' honest' leaves leaves' s (inr (why, none, are)) =
-    unopened_stops form m left w w' (shown rows) (shown rows') honest' (ShowsLeft leaves) (ShowsLeft leaves') none.1 (shown_left rows rows' honest' leaves leaves' are)
-way_stops form (Past height what) left left' w w' rows rows' honest' leaves leaves' s ends = λ good now may. ends.1.0.stop good now may
+pub way_stops : (form : Form) (every : ℕ) (way : Way) (left left' w w' : Option (List ℕ)) (rows rows' : Option (List Pair)) (honest' : Type 0) (leaves leaves' : List Pair → Type 0) (s : Status) → WayEnds form every way (source_told left left') (sink_told w w') (keeper_told rows rows' honest' leaves leaves') s → WayStops form every way left w w' rows honest' leaves leaves'
+way_stops form every (Plain m) left left' w w' rows rows' honest' leaves leaves' s ends = mode_stops form every m left left' w w' rows rows' honest' leaves leaves' s ends
+way_stops form every (Kept m) left left' w w' rows rows' honest' leaves leaves' s (inl k) = mode_stops form 1 m left left' w w' (shown rows) (shown rows') honest' (ShowsLeft leaves) (ShowsLeft leaves') s k.ends
+way_stops form every (Kept m) left left' w w' rows rows' honest' leaves leaves' s (inr (why, none, are)) =
+    unopened_stops form 1 m left w w' (shown rows) (shown rows') honest' (ShowsLeft leaves) (ShowsLeft leaves') none.1 (shown_left rows rows' honest' leaves leaves' are)
+way_stops form every (Past height what) left left' w w' rows rows' honest' leaves leaves' s ends = λ good now may. ends.1.0.stop good now may
 
 -- ---- runs that come to their end
 
@@ -146,14 +146,14 @@ unopened_ends (WrongStore is_empty) keeps rows rows' honest' faults faults' h fi
 unopened_ends NotFound keeps rows rows' honest' faults faults' h fits same good unkept keep = absurd h
 unopened_ends (NoPast base last) keeps rows rows' honest' faults faults' h fits same good unkept keep = absurd h
 
-pub untroubled_way : (form : Form) (way : Way) → CommitsIfKept way → (left left' w w' : Option (List ℕ)) (keeps : Bool) (rows rows' : Option (List Pair)) (honest' : Type 0) (leaves leaves' : List Pair → Type 0) (faults faults' : ℕ) (s : Status)
-    → WayEnds form way (source_told left left') (sink_told w w') (keeper_told rows rows' honest' leaves leaves') s → WayIsUntroubled form way left keeps rows honest' faults faults' → (s ≡ Usage → ⊥) → (s ≡ ReadFault → ⊥) → (s ≡ WriteFault → ⊥) → (s ≡ KeepFault → Rose faults faults') → (keeps ≡ false → WayUnkept way (source_told left left') (sink_told w w') s)
+pub untroubled_way : (form : Form) (every : ℕ) (way : Way) → CommitsIfKept way → (left left' w w' : Option (List ℕ)) (keeps : Bool) (rows rows' : Option (List Pair)) (honest' : Type 0) (leaves leaves' : List Pair → Type 0) (faults faults' : ℕ) (s : Status)
+    → WayEnds form every way (source_told left left') (sink_told w w') (keeper_told rows rows' honest' leaves leaves') s → WayIsUntroubled form way left keeps rows honest' faults faults' → (s ≡ Usage → ⊥) → (s ≡ ReadFault → ⊥) → (s ≡ WriteFault → ⊥) → (s ≡ KeepFault → Rose faults faults') → (keeps ≡ false → WayUnkept way (source_told left left') (sink_told w w') s)
     → (s ≡ Done) ⊎ (s ≡ NoMemory)
-untroubled_way form (Plain m) commits left left' w w' keeps rows rows' honest' leaves leaves' faults faults' s ends calm busy read write keep unkept =
-    untroubled_command form m left left' w w' keeps rows rows' honest' leaves leaves' faults faults' s ends calm busy read write keep unkept
-untroubled_way form (Kept m) commits left left' w w' keeps rows rows' honest' leaves leaves' faults faults' s (inl k) calm busy read write keep unkept =
-    untroubled_command form m left left' w w' keeps (shown rows) (shown rows') honest' (ShowsLeft leaves) (ShowsLeft leaves') faults faults' s k.ends calm.0 busy read write keep (λ off. (unkept off).0)
-untroubled_way form (Kept m) commits left left' w w' keeps rows rows' honest' leaves leaves' faults faults' s (inr (why, none, are)) calm busy read write keep unkept =
+untroubled_way form every (Plain m) commits left left' w w' keeps rows rows' honest' leaves leaves' faults faults' s ends calm busy read write keep unkept =
+    untroubled_command form every m left left' w w' keeps rows rows' honest' leaves leaves' faults faults' s ends calm busy read write keep unkept
+untroubled_way form every (Kept m) commits left left' w w' keeps rows rows' honest' leaves leaves' faults faults' s (inl k) calm busy read write keep unkept =
+    untroubled_command form 1 m left left' w w' keeps (shown rows) (shown rows') honest' (ShowsLeft leaves) (ShowsLeft leaves') faults faults' s k.ends calm.0 busy read write keep (λ off. (unkept off).0)
+untroubled_way form every (Kept m) commits left left' w w' keeps rows rows' honest' leaves leaves' faults faults' s (inr (why, none, are)) calm busy read write keep unkept =
     unopened_ends s keeps rows rows' honest' faults faults' why (kept_fits form m commits left keeps rows honest' faults faults' calm.0) are.rows_are calm.1 (λ off. (unkept off).1) keep
-untroubled_way form (Past height what) commits left left' w w' keeps rows rows' honest' leaves leaves' faults faults' s ends calm busy read write keep unkept =
+untroubled_way form every (Past height what) commits left left' w w' keeps rows rows' honest' leaves leaves' faults faults' s ends calm busy read write keep unkept =
     past_ends form height what rows rows' honest' faults faults' calm ends.1.0.rows_are left left' w w' leaves leaves' s ends.1 write (λ e. calm.quiet (keep e))

@@ -46,28 +46,28 @@ way_of c = way_in c.keep c.past c.mode
 
 -- ---- what was taken, written and kept
 
-abbrev pub WayEnds : Form → Way → SourceTold → SinkTold → KeeperTold → Status → Type 0
-WayEnds form (Plain m) source sink keeper status = ModeEnds form m source sink keeper status
-WayEnds form (Kept m) source sink keeper status = KeepEnds form m source sink keeper status
-WayEnds form (Past height what) source sink keeper status = (source.left' ≡ source.left) × PastEnds form height what sink keeper status
+abbrev pub WayEnds : Form → ℕ → Way → SourceTold → SinkTold → KeeperTold → Status → Type 0
+WayEnds form every (Plain m) source sink keeper status = ModeEnds form every m source sink keeper status
+WayEnds form every (Kept m) source sink keeper status = KeepEnds form m source sink keeper status
+WayEnds form every (Past height what) source sink keeper status = (source.left' ≡ source.left) × PastEnds form height what sink keeper status
 
--- the same of what words ask for: of no command, and of one with addresses in its form
+-- the same of what words ask for: of no command, and of one with addresses in its form, which commits at so many blocks
 abbrev pub CommandEnds : Option Command → SourceTold → SinkTold → KeeperTold → Status → Type 0
 CommandEnds None source sink keeper status = Leaves source sink (λ text. text ≡ []) × AreUntouched keeper.rows keeper.rows' keeper.leaves keeper.leaves'
-CommandEnds (Some c) source sink keeper status = WayEnds c.form (way_of c) source sink keeper status
+CommandEnds (Some c) source sink keeper status = WayEnds c.form c.every (way_of c) source sink keeper status
 
 -- ---- what a stop leaves
 
 -- Where what is replaced is kept, a stop leaves the visible rows as without it. A question changes no rows.
-abbrev pub WayStops : Form → Way → Option (List ℕ) → Option (List ℕ) → Option (List ℕ) → Option (List Pair) → Type 0 → (List Pair → Type 0) → (List Pair → Type 0) → Type 0
-WayStops form (Plain m) left written written' rows honest' leaves leaves' = ModeStops form m left written written' rows honest' leaves leaves'
-WayStops form (Kept m) left written written' rows honest' leaves leaves' = ModeStops form m left written written' (shown rows) honest' (ShowsLeft leaves) (ShowsLeft leaves')
-WayStops form (Past height what) left written written' rows honest' leaves leaves' = LeavesAsBefore honest' leaves leaves'
+abbrev pub WayStops : Form → ℕ → Way → Option (List ℕ) → Option (List ℕ) → Option (List ℕ) → Option (List Pair) → Type 0 → (List Pair → Type 0) → (List Pair → Type 0) → Type 0
+WayStops form every (Plain m) left written written' rows honest' leaves leaves' = ModeStops form every m left written written' rows honest' leaves leaves'
+WayStops form every (Kept m) left written written' rows honest' leaves leaves' = ModeStops form 1 m left written written' (shown rows) honest' (ShowsLeft leaves) (ShowsLeft leaves')
+WayStops form every (Past height what) left written written' rows honest' leaves leaves' = LeavesAsBefore honest' leaves leaves'
 
 -- the same of what words ask for: where they are no command, a stop leaves what it could leave before
 abbrev pub CommandStops : Option Command → Option (List ℕ) → Option (List ℕ) → Option (List ℕ) → Option (List Pair) → Type 0 → (List Pair → Type 0) → (List Pair → Type 0) → Type 0
 CommandStops None left written written' rows honest' leaves leaves' = LeavesAsBefore honest' leaves leaves'
-CommandStops (Some c) left written written' rows honest' leaves leaves' = WayStops c.form (way_of c) left written written' rows honest' leaves leaves'
+CommandStops (Some c) left written written' rows honest' leaves leaves' = WayStops c.form c.every (way_of c) left written written' rows honest' leaves leaves'
 
 -- ---- over a keeper that keeps nothing
 

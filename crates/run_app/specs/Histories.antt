@@ -46,10 +46,10 @@ IsUnopened NoMemory rows rows' honest' = Unit {0}
 IsUnopened BadStore rows rows' honest' = AreLoaded rows rows' honest' (λ now. ¬ IsHistory now)
 IsUnopened _ rows rows' honest' = ⊥
 
--- A run that keeps a history ends, of the visible rows, as one that keeps none. The rows are what commits made of those before, and a
+-- A run that keeps a history commits at each block, and ends, of the visible rows, as one that keeps none. The rows are what commits made of those before, and a
 -- history in them is of its form.
 pub record Keeps (form : Form) (m : Mode) (source : SourceTold) (sink : SinkTold) (keeper : KeeperTold) (status : Status) : Type 0 where
-  pub ends : ModeEnds form m source sink (visible keeper) status
+  pub ends : ModeEnds form 1 m source sink (visible keeper) status
   pub became : HaveBecome keeper.rows keeper.rows'
   pub history : IfSome keeper.rows' IsHistory
 

@@ -1,16 +1,16 @@
 -- What a run keeps in its keeper, and what it leaves there.
-use Rattle.std.specs.Prelude.{◌≡◌, ◌≢◌, ◌⊎◌, ℕ, ◌≤◌, false, List, [], Option, Some, None, IfSome, IsSome}
+use Rattle.std.specs.Prelude.{◌≡◌, ◌≢◌, ◌⊎◌, false, List, [], Option, Some, None, IfSome, IsSome}
 use Rattle.chain_whole.specs.Chained.{Chained}
 use Rattle.base_io.specs.Rows.{Makes, Pair}
 use Rattle.base_io.specs.Changes.{LeavesRows}
-use Rattle.store_commits.specs.Held.{items_at, rows_at}
+use Rattle.store_commits.specs.Held.{HasRisen, items_at, rows_at}
 use Rattle.store_commits.specs.Commits.{Holds}
 use Rattle.store_items.specs.Stored.{AreStored, rows_as}
 use Rattle.store_rows.specs.declared.format.Format.{Format}
 use Rattle.run_app.specs.declared.status.Status.{Status}
 use Rattle.run_app.specs.declared.status.Status.TheVariants.{KeepFault, NoMemory, WrongStore}
 use Rattle.run_app.specs.Seen.{KeeperTold}
-use Rattle.run_app.specs.Machine.{IsSettled, Standing, StandsAt}
+use Rattle.run_app.specs.Machine.{SettledAt, Standing, StandsAt}
 
 -- how a run began: on the rows of what it was to go on from, and these rows, where they were told
 pub record Began : Type 0 where
@@ -21,20 +21,21 @@ pub record Began : Type 0 where
 abbrev pub BeganOnRows : Began → Type 0
 BeganOnRows b = (f : Format) × (b.rows ≡ Some (rows_as f (items_at b.first)))
 
--- Between two lines: the chain stands for what they have led to, and is settled; the keeper holds its items. While the keeper is
--- honest, it still tells its rows, and a stop leaves just these.
-pub record Keeping (b : Began) (chain : Option Chained) (told : Option (List Pair)) (honest : Type 0) (leaves : List Pair → Type 0) (s : Standing) : Type 0 where
-  pub stands : StandsAt chain s
-  pub same : IsSettled chain
+-- Between two lines: the chain stands for what they have led to, `t`. What was settled of it stands for what was committed, `s`, and
+-- the keeper holds the items of this. While the keeper is honest, it still tells its rows, and a stop leaves just these.
+pub record Keeping (b : Began) (chain : Option Chained) (told : Option (List Pair)) (honest : Type 0) (leaves : List Pair → Type 0) (s t : Standing) : Type 0 where
+  pub stands : StandsAt chain t
+  pub same : SettledAt chain s
   pub held : Holds (items_at s) told
   pub began : IfSome told (λ now. BeganOnRows b)
   pub tells : honest → IsSome b.rows → IsSome told
   pub settled : LeavesRows leaves told
 
--- A keeper after calls: it is honest only if it was, and its count of faults has not fallen.
-pub record IsLater (then_honest now_honest : Type 0) (faults faults' : ℕ) : Type 0 where
-  pub honest : now_honest → then_honest
-  pub count : faults ≤ faults'
+-- from one state to another the height rose
+abbrev pub HasGrown : Standing → Standing → Type 0
+HasGrown (Some p) (Some q) = HasRisen p q
+HasGrown None t = Unit {0}
+HasGrown (Some p) None = Unit {0}
 
 -- these are the rows of what lines have led to, in the format that is written, of which each item
 -- has one

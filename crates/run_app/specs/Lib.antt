@@ -6,7 +6,6 @@ pub mod Ending
 pub mod Histories
 pub mod Kept
 pub mod Laws
-pub mod LineStops
 pub mod Lines
 pub mod Machine
 pub mod Modes

@@ -1,5 +1,5 @@
 -- What the machine answers to each line of the input.
-use Rattle.std.specs.Prelude.{◌≡◌, ℕ, List, length, nat_lt, if◌then◌else◌, Option, Some, None, Result, Ok, Err}
+use Rattle.std.specs.Prelude.{◌≡◌, ℕ, List, ◌++◌, length, nat_lt, if◌then◌else◌, Option, Some, None, Result, Ok, Err}
 use Rattle.base_bech32.specs.declared.form.Form.{Form}
 use Rattle.base_messages.specs.declared.faults.LineFault.{LineFault}
 use Rattle.base_messages.specs.declared.faults.LineFault.TheVariants as line
@@ -45,15 +45,16 @@ pub record Answer : Type 0 where
   pub text : List ℕ
   pub standing : Standing
 
--- the line has an answer with this text, and what it leads to is so
-abbrev pub AnswersTo : Result Answer LineStop → List ℕ → (Standing → Type 0) → Type 0
-AnswersTo due text P =
-    (next : Standing) × (due ≡ Ok (record { text = text; standing = next })) × P next
+-- the line has an answer, whose text came behind these bytes, and what it leads to is so
+abbrev pub HoldsAnswer : Result Answer LineStop → List ℕ → List ℕ → (Standing → Type 0) → Type 0
+HoldsAnswer due held held' P =
+    (answer : Answer) × (due ≡ Ok answer) × (held' ≡ held ++ answer.text) × P answer.standing
 
--- what was settled of a chain is what it keeps
-abbrev pub IsSettled : Option Chained → Type 0
-IsSettled None = Unit {0}
-IsSettled (Some chain) = chain.settled ≡ chain.kept
+-- What was settled of a chain stands so: there is nothing before the genesis, and then a state for which it stands.
+abbrev pub SettledAt : Option Chained → Standing → Type 0
+SettledAt None s = s ≡ None
+SettledAt (Some chain) None = ⊥
+SettledAt (Some chain) (Some p) = StandsFor chain.settled p
 
 -- why the line of this number is not read
 abbrev pub not_read : ℕ → LineFault → LineStop

@@ -48,25 +48,25 @@ HasFewBlocks (Gen seed count) = count ≤ 100000
 HasFewBlocks (Trial seed count) = count ≤ 100000
 
 -- A replay begins on no rows, and ends as its input says; or it does not begin, takes and writes nothing, and leaves all rows.
-abbrev pub ReplayEnds : Form → SourceTold → SinkTold → KeeperTold → Status → Type 0
-ReplayEnds form source sink keeper status =
-    RunEnds form None (LeftIn (on_none keeper.rows) keeper.rows' keeper.honest' keeper.leaves') source.left source.left' sink.written sink.written' status
+abbrev pub ReplayEnds : Form → ℕ → SourceTold → SinkTold → KeeperTold → Status → Type 0
+ReplayEnds form every source sink keeper status =
+    RunEnds form every None (LeftIn (on_none keeper.rows) keeper.rows' keeper.honest' keeper.leaves') source.left source.left' sink.written sink.written' status
     ⊎ (IsUnbegun status (AreSome keeper.rows keeper.rows' keeper.honest') × Leaves source sink (λ text. text ≡ []) × AreLeft keeper)
 
--- What was taken, written and kept at the end of a run: of a replay, of a run that goes on, of a question, of a
+-- What was taken, written and kept at the end of a run: of a replay and of a run that goes on, which commit at each Nth block, of a question, of a
 -- tally, of statements that are checked, of those that are made, of the generated input, of a trial.
-abbrev pub ModeEnds : Form → Mode → SourceTold → SinkTold → KeeperTold → Status → Type 0
-ModeEnds form Replay source sink keeper status = ReplayEnds form source sink keeper status
-ModeEnds form Resume source sink keeper status = ResumeEnds form source sink keeper status
-ModeEnds form (Query what) source sink keeper status = (source.left' ≡ source.left) × QueryEnds form what sink keeper status
-ModeEnds form Tally source sink keeper status = TallyEnds form source sink keeper status
-ModeEnds form Check source sink keeper status =
+abbrev pub ModeEnds : Form → ℕ → Mode → SourceTold → SinkTold → KeeperTold → Status → Type 0
+ModeEnds form every Replay source sink keeper status = ReplayEnds form every source sink keeper status
+ModeEnds form every Resume source sink keeper status = ResumeEnds form every source sink keeper status
+ModeEnds form every (Query what) source sink keeper status = (source.left' ≡ source.left) × QueryEnds form what sink keeper status
+ModeEnds form every Tally source sink keeper status = TallyEnds form source sink keeper status
+ModeEnds form every Check source sink keeper status =
     CheckEnds form source sink status × AreUntouched keeper.rows keeper.rows' keeper.leaves keeper.leaves'
-ModeEnds form (Statement delegator operator) source sink keeper status =
+ModeEnds form every (Statement delegator operator) source sink keeper status =
     StatementEnds form delegator operator source sink status × AreUntouched keeper.rows keeper.rows' keeper.leaves keeper.leaves'
-ModeEnds form (Gen seed count) source sink keeper status =
+ModeEnds form every (Gen seed count) source sink keeper status =
     Leaves source sink (IsWritten (generated_text form seed count) status) × AreUntouched keeper.rows keeper.rows' keeper.leaves keeper.leaves'
-ModeEnds form (Trial seed count) source sink keeper status =
+ModeEnds form every (Trial seed count) source sink keeper status =
     Leaves source sink (IsTried (trial_of seed count) status) × AreUntouched keeper.rows keeper.rows' keeper.leaves keeper.leaves'
 
 -- a keeper that keeps nothing, or one without rows, that is honest to the end, and of which no call fails

@@ -38,33 +38,33 @@ pub record Passed (form : Form) (first : Standing) (Left : Standing → Standing
   pub number : n ≡ 1 + length (whole_from [] bytes)
   pub line : (byte ≡ 10) ⊎ (length (rest_from [] bytes) < longest)
 
--- From an input of which these bytes were taken and those are left, a run that began at the first standing wrote this text and ended
--- so. What it left in its keeper is told by `L`.
-abbrev pub Ends : Form → Standing → (Standing → Standing → Type 0) → List ℕ → List ℕ → Status → List ℕ → Type 0
-Ends form first L taken rest Done text = (rest ≡ []) × (length taken ≤ most_bytes) × Finished form L 1 first (lines_of taken) text
-Ends form first L taken rest (BadInput n fault) text = (length taken ≤ most_bytes)
+-- From an input of which these bytes were taken and those are left, a run that began at the first standing, and commits at each Nth block,
+-- wrote this text and ended so. What it left in its keeper is told by `L`.
+abbrev pub Ends : Form → ℕ → Standing → (Standing → Standing → Type 0) → List ℕ → List ℕ → Status → List ℕ → Type 0
+Ends form every first L taken rest Done text = (rest ≡ []) × (length taken ≤ most_bytes) × Finished form L 1 first (lines_of taken) text
+Ends form every first L taken rest (BadInput n fault) text = (length taken ≤ most_bytes)
     × (((lines : List (List ℕ)) × AreEnded lines taken rest × Named form L 1 first lines text (stop.BadInput n fault))
     ⊎ ((rest ≡ []) × Lacking form L 1 first (lines_of taken) text (stop.BadInput n fault)))
-Ends form first L taken rest (Limit n Line) text = (length taken ≤ most_bytes + 1) × ((more : List ℕ) → Named form L 1 first (lines_of (taken ++ more)) text (stop.Long n))
-Ends form first L taken rest (Limit n Input) text = Passed form first L n taken text
-Ends form first L taken rest (Limit n (Ratio over)) text = (length taken ≤ most_bytes) × (lines : List (List ℕ)) × AreEnded lines taken rest × Named form L 1 first lines text (stop.Ratio n over)
-Ends form first L taken rest ReadFault text = (length taken ≤ most_bytes) × Answered form L 1 first (whole_from [] taken) text
-Ends form first L taken rest WriteFault text = (length taken ≤ most_bytes)
-    × (((lines : List (List ℕ)) × AreEnded lines taken rest × Wrote form L 1 first lines text)
+Ends form every first L taken rest (Limit n Line) text = (length taken ≤ most_bytes + 1) × ((more : List ℕ) → Named form L 1 first (lines_of (taken ++ more)) text (stop.Long n))
+Ends form every first L taken rest (Limit n Input) text = Passed form first L n taken text
+Ends form every first L taken rest (Limit n (Ratio over)) text = (length taken ≤ most_bytes) × (lines : List (List ℕ)) × AreEnded lines taken rest × Named form L 1 first lines text (stop.Ratio n over)
+Ends form every first L taken rest ReadFault text = (length taken ≤ most_bytes) × Answered form L 1 first (whole_from [] taken) text
+Ends form every first L taken rest WriteFault text = (length taken ≤ most_bytes)
+    × (((lines : List (List ℕ)) × AreEnded lines taken rest × Wrote form every L 1 first lines text)
     ⊎ ((rest ≡ []) × Reported form L 1 first (lines_of taken) text)
     ⊎ ((rest ≡ []) × Finished form L 1 first (lines_of taken) text))
-Ends form first L taken rest KeepFault text = (length taken ≤ most_bytes) × (lines : List (List ℕ)) × AreEnded lines taken rest × Unkept form L 1 first lines text
-Ends form first L taken rest NoMemory text = (length taken ≤ most_bytes)
-    × (((lines : List (List ℕ)) × AreEnded lines taken rest × (Wrote form L 1 first lines text ⊎ Held form L 1 first lines text ⊎ Unkept form L 1 first lines text))
+Ends form every first L taken rest KeepFault text = (length taken ≤ most_bytes) × (lines : List (List ℕ)) × AreEnded lines taken rest × Unkept form every L 1 first lines text
+Ends form every first L taken rest NoMemory text = (length taken ≤ most_bytes)
+    × (((lines : List (List ℕ)) × AreEnded lines taken rest × (Wrote form every L 1 first lines text ⊎ Held form L 1 first lines text ⊎ Unkept form every L 1 first lines text))
     ⊎ ((rest ≡ []) × Reported form L 1 first (lines_of taken) text))
-Ends form first L taken rest _ text = ⊥
+Ends form every first L taken rest _ text = ⊥
 
 -- There are bytes that were taken, a rest that is left, and a text that was written, as the source and the sink tell them where they
 -- do, by which a run ended so.
-abbrev pub RunEnds : Form → Standing → (Standing → Standing → Type 0) → Option (List ℕ) → Option (List ℕ) → Option (List ℕ) → Option (List ℕ) → Status → Type 0
-RunEnds form first L left left' written written' status =
+abbrev pub RunEnds : Form → ℕ → Standing → (Standing → Standing → Type 0) → Option (List ℕ) → Option (List ℕ) → Option (List ℕ) → Option (List ℕ) → Status → Type 0
+RunEnds form every first L left left' written written' status =
     (taken : List ℕ) × (rest : List ℕ) × (text : List ℕ)
-    × TakesFrom left left' taken rest × Grows written written' text × Ends form first L taken rest status text
+    × TakesFrom left left' taken rest × Grows written written' text × Ends form every first L taken rest status text
 
 -- a source that tells, and an input of the form, within its limits, from where a run begins
 pub record IsUntroubled (form : Form) (first : Standing) (left : Option (List ℕ)) : Type 0 where

@@ -46,11 +46,11 @@ on_rows_of p rows = record { first = Some p; rows = rows }
 -- where the keeper was honest; and from each state of the same rows it ended as the machine says
 -- from there, with its lines numbered from 1. Rows of the first format were brought to the second
 -- before any line.
-pub record GoesOn (form : Form) (left left' written written' : Option (List ℕ)) (rows rows' : Option (List Pair)) (honest' : Type 0) (leaves' : List Pair → Type 0) (status : Status) : Type 0 where
+pub record GoesOn (form : Form) (every : ℕ) (left left' written written' : Option (List ℕ)) (rows rows' : Option (List Pair)) (honest' : Type 0) (leaves' : List Pair → Type 0) (status : Status) : Type 0 where
   pub first : State
   pub storable : IsStorable first
   pub loaded : honest' → IfSome rows (λ now. AreStateRows now first)
-  pub ends : (p : State) → IsStorable p → HaveSameRows p first → RunEnds form (Some p) (LeftIn (on_rows_of p rows) rows' honest' leaves') left left' written written' status
+  pub ends : (p : State) → IsStorable p → HaveSameRows p first → RunEnds form every (Some p) (LeftIn (on_rows_of p rows) rows' honest' leaves') left left' written written' status
 
 -- Rows of the first format were not brought to the second: their commit failed, or memory was
 -- wanting for it. They are as before. A stop leaves what it could leave before, or the rows of the
@@ -66,9 +66,9 @@ pub record IsUnmigrated (status : Status) (rows rows' : Option (List Pair)) (hon
 -- A resume goes on from the rows of its keeper; or no chain comes of them, it takes and writes
 -- nothing, and leaves all rows; or these were not brought to the format that is written, and it
 -- takes and writes nothing.
-abbrev pub ResumeEnds : Form → SourceTold → SinkTold → KeeperTold → Status → Type 0
-ResumeEnds form source sink keeper status =
-    GoesOn form source.left source.left' sink.written sink.written' keeper.rows keeper.rows' keeper.honest' keeper.leaves' status
+abbrev pub ResumeEnds : Form → ℕ → SourceTold → SinkTold → KeeperTold → Status → Type 0
+ResumeEnds form every source sink keeper status =
+    GoesOn form every source.left source.left' sink.written sink.written' keeper.rows keeper.rows' keeper.honest' keeper.leaves' status
     ⊎ (IsUnresumed status keeper.rows keeper.rows' keeper.honest' × Leaves source sink (λ text. text ≡ []) × AreLeft keeper)
     ⊎ (IsUnmigrated status keeper.rows keeper.rows' keeper.honest' keeper.leaves keeper.leaves' × Leaves source sink (λ text. text ≡ []))
 

@@ -1,5 +1,5 @@
 -- What a run over lines writes, and how it may stop.
-use Rattle.std.specs.Prelude.{◌≡◌, ℕ, ◌+◌, List, [], ◌∷◌, ◌++◌, length, Option, Some, None, Result, Ok, Err}
+use Rattle.std.specs.Prelude.{◌≡◌, ℕ, ◌+◌, ◌<◌, ◌≤◌, List, [], ◌∷◌, ◌++◌, length, Option, Some, None, Result, Ok, Err}
 use Rattle.base_bech32.specs.declared.form.Form.{Form}
 use Rattle.base_io.specs.Outside.{IsPart}
 use Rattle.run_app.specs.declared.status.LineStop.{LineStop}
@@ -37,6 +37,17 @@ AreAnswered form n s (line ∷ lines) text end =
 -- In each record below, `Left s t` says what a run leaves in its keeper, where `s` stands for the last lines that were committed,
 -- and `t` for those that were to be: it is `s`, unless a commit failed.
 
+-- Behind the first lines, whose texts are `done`, a batch of at least one and at most N further lines is answered; their texts are `due`.
+pub record Batched (form : Form) (every n : ℕ) (s : Standing) (lines : List (List ℕ)) (done : List ℕ) (middle : Standing) (due : List ℕ) (end : Standing) : Type 0 where
+  pub before : List (List ℕ)
+  pub batch : List (List ℕ)
+  pub after : List (List ℕ)
+  pub lines_are : lines ≡ before ++ (batch ++ after)
+  pub some : 0 < length batch
+  pub few : length batch ≤ every
+  pub answered : AreAnswered form n s before done middle
+  pub answered_batch : AreAnswered form (n + length before) middle batch due end
+
 -- the first of the lines that has a fault has this one, and the texts of those before it were written
 pub record Named (form : Form) (Left : Standing → Standing → Type 0) (n : ℕ) (s : Standing) (lines : List (List ℕ)) (text : List ℕ) (fault : LineStop) : Type 0 where
   pub before : List (List ℕ)
@@ -48,33 +59,25 @@ pub record Named (form : Form) (Left : Standing → Standing → Type 0) (n : �
   pub fault_is : line_answer form (n + length before) middle line ≡ Err fault
   pub left : Left middle middle
 
--- the texts of the lines before one of the lines were written, and a part of its own
-pub record Wrote (form : Form) (Left : Standing → Standing → Type 0) (n : ℕ) (s : Standing) (lines : List (List ℕ)) (text : List ℕ) : Type 0 where
-  pub before : List (List ℕ)
-  pub line : List ℕ
-  pub after : List (List ℕ)
-  pub middle : Standing
+-- the texts of the lines before a batch were written, and a part of those of the batch, which was committed
+pub record Wrote (form : Form) (every : ℕ) (Left : Standing → Standing → Type 0) (n : ℕ) (s : Standing) (lines : List (List ℕ)) (text : List ℕ) : Type 0 where
   pub done : List ℕ
-  pub answer : Answer
-  pub front : List ℕ
-  pub lines_are : lines ≡ before ++ line ∷ after
-  pub answered : AreAnswered form n s before done middle
-  pub answer_is : line_answer form (n + length before) middle line ≡ Ok answer
-  pub part : IsPart front answer.text
-  pub text_is : text ≡ done ++ front
-  pub left : Left answer.standing answer.standing
-
--- the texts of the lines before one of the lines were written, and what that line leads to was not committed
-pub record Unkept (form : Form) (Left : Standing → Standing → Type 0) (n : ℕ) (s : Standing) (lines : List (List ℕ)) (text : List ℕ) : Type 0 where
-  pub before : List (List ℕ)
-  pub line : List ℕ
-  pub after : List (List ℕ)
   pub middle : Standing
-  pub answer : Answer
-  pub lines_are : lines ≡ before ++ line ∷ after
-  pub answered : AreAnswered form n s before text middle
-  pub answer_is : line_answer form (n + length before) middle line ≡ Ok answer
-  pub left : Left middle answer.standing
+  pub due : List ℕ
+  pub end : Standing
+  pub front : List ℕ
+  pub batched : Batched form every n s lines done middle due end
+  pub part : IsPart front due
+  pub text_is : text ≡ done ++ front
+  pub left : Left end end
+
+-- the texts of the lines before a batch were written, and what the batch leads to was not committed
+pub record Unkept (form : Form) (every : ℕ) (Left : Standing → Standing → Type 0) (n : ℕ) (s : Standing) (lines : List (List ℕ)) (text : List ℕ) : Type 0 where
+  pub middle : Standing
+  pub due : List ℕ
+  pub end : Standing
+  pub batched : Batched form every n s lines text middle due end
+  pub left : Left middle end
 
 -- the texts of the first lines were written
 pub record Held (form : Form) (Left : Standing → Standing → Type 0) (n : ℕ) (s : Standing) (lines : List (List ℕ)) (text : List ℕ) : Type 0 where

@@ -1,28 +1,21 @@
-//! The input in pieces, as a source gives them: a piece is cut into lines, and each line that has ended is answered.
+//! The input in pieces, as a source gives them: a piece is cut into lines, and each line that has ended is answered. Lines
+//! that wait may have come in earlier pieces, so what is said of a piece is said of all bytes up to its end.
 
-ghost use Rattle.std.specs.Prelude.{◌≡◌, ◌≤◌, ◌<◌, ◌^◌, ◌+◌, ◌∷◌, ◌++◌, [], ℕ, Err, IfErr, IfSome, IfNone, OnOk, OnErr, IsErrOf, length, take, drop, slice_index};
-ghost use Rattle.base_io.specs.Outside.{Rose};
-ghost use Rattle.run_app.specs.Lines.{whole_from};
-ghost use Rattle.run_app.specs.Kept.{Began, IsLater, Keeping, LeftIn};
+ghost use Rattle.std.specs.Prelude.{◌≡◌, ◌≤◌, ◌<◌, ◌^◌, ◌+◌, ◌∷◌, ◌++◌, [], ℕ, List, Option, Err, IfErr, IfSome, IfNone, OnOk, length, take, drop};
+ghost use Rattle.run_app.specs.Counts.{Moved};
+ghost use Rattle.run_app.specs.Kept.{Began, LeftIn};
+ghost use Rattle.run_app.specs.Lines.{lines_of, whole_from};
 ghost use Rattle.run_app.specs.Machine.{longest, Standing};
-ghost use Rattle.run_app.specs.Parts.{PartStops, Fed, lines_after, HasNoEnd, NotExtended, UnlessKeep, UnlessWrite};
+ghost use Rattle.run_app.specs.Parts.{Fed, HasNoEnd, NotExtended, PartStops, Stands, is_keep_stop, is_write_stop};
 
-use crate::line::{Buffers, LONGEST, take_line};
+use crate::line::{LONGEST, take_line};
+use crate::progress::Progress;
 use crate::status::LineStop;
 use base_bech32::Form;
 use base_io::{Keeper, Sink};
-use chain_whole::Chain;
+use json::Scratch;
 use memchr::memchr;
 use std::alloc::Global;
-
-/// Where a run stands: the number of the next line, what has come of it, and what the lines
-/// before it led to.
-#[derive(Drop)]
-pub struct Progress {
-    pub number: u64,
-    pub line: Vec<u8>,
-    pub chain: Option<Chain>,
-}
 
 /// Where the first end of a line stands.
 pub(crate) fn end_of_line(bytes: &[u8]) -> Option<usize>
@@ -65,58 +58,54 @@ pub(crate) fn extend(number: u64, line: &mut Vec<u8>, bytes: &[u8]) -> Result<()
 fn end_line<K: Sink, D: Keeper>(
     form: Form,
     alloc: Global,
-    buffers: &mut Buffers,
+    every: u64,
+    scratch: &mut Scratch,
     sink: &mut K,
     keeper: &mut D,
     progress: &mut Progress,
     bytes: &[u8],
 ) -> Result<(), LineStop>
     requires number { progress.old.number < 2 ^ 63 }
-    requires short { length progress.old.line.items ≤ longest }
     requires before { HasNoEnd bytes.now }
-    requires kept { (b : Began) × (s : Standing) × Keeping b progress.old.chain
-        (D.rows keeper.old) (D.is_honest keeper.old) (D.may_leave keeper.old) s }
-    ensures fed { (b : Began) → (s : Standing) → Keeping b progress.old.chain
-        (D.rows keeper.old) (D.is_honest keeper.old) (D.may_leave keeper.old) s
+    requires every { 0 < every }
+    requires fed { (b : Began) × (taken : List ℕ) × (end : Standing) × (from : Option (List ℕ))
+        × Fed form every b taken end progress.old.number
+        progress.old.line.items progress.old.chain progress.old.waiting progress.old.held.items
+        from (K.written sink.old)
+        (D.rows keeper.old) (D.is_honest keeper.old) (D.may_leave keeper.old) }
+    ensures fed { (b : Began) → (taken : List ℕ) → (end : Standing) → (from : Option (List ℕ))
+        → Fed form every b taken end progress.old.number
+        progress.old.line.items progress.old.chain progress.old.waiting progress.old.held.items
+        from (K.written sink.old)
+        (D.rows keeper.old) (D.is_honest keeper.old) (D.may_leave keeper.old)
         → OnOk result ((next : Standing)
-        × Fed form progress.old.number s progress.old.line.items (bytes.now ++ 10 ∷ [])
-        progress.new.number next progress.new.line.items (K.written sink.old) (K.written sink.new)
-        × Keeping b progress.new.chain
-        (D.rows keeper.new) (D.is_honest keeper.new) (D.may_leave keeper.new) next) }
-    ensures stops { (b : Began) → (s : Standing) → Keeping b progress.old.chain
-        (D.rows keeper.old) (D.is_honest keeper.old) (D.may_leave keeper.old) s
-        → IfErr result (PartStops form
+        × Fed form every b (taken ++ (bytes.now ++ 10 ∷ [])) next progress.new.number
+        progress.new.line.items progress.new.chain progress.new.waiting progress.new.held.items
+        from (K.written sink.new)
+        (D.rows keeper.new) (D.is_honest keeper.new) (D.may_leave keeper.new)) }
+    ensures stops { (b : Began) → (taken : List ℕ) → (end : Standing) → (from : Option (List ℕ))
+        → Fed form every b taken end progress.old.number
+        progress.old.line.items progress.old.chain progress.old.waiting progress.old.held.items
+        from (K.written sink.old)
+        (D.rows keeper.old) (D.is_honest keeper.old) (D.may_leave keeper.old)
+        → IfErr result (PartStops form every b.first
         (LeftIn b (D.rows keeper.new) (D.is_honest keeper.new) (D.may_leave keeper.new))
-        progress.old.number s (lines_after progress.old.line.items (bytes.now ++ 10 ∷ []))
-        (whole_from progress.old.line.items (bytes.now ++ 10 ∷ []))
-        (K.written sink.old) (K.written sink.new)) }
-    ensures later { K.faults sink.old ≤ K.faults sink.new }
-    ensures cause { IsErrOf result LineStop.Write
-        → Rose (K.faults sink.old) (K.faults sink.new) }
-    ensures quiet { UnlessWrite result (K.faults sink.new ≡ K.faults sink.old) }
-    ensures keeps { IsLater (D.is_honest keeper.old) (D.is_honest keeper.new)
-        (D.faults keeper.old) (D.faults keeper.new) }
-    ensures keep_cause { IsErrOf result LineStop.Keep
-        → Rose (D.faults keeper.old) (D.faults keeper.new) }
-    ensures keep_quiet { UnlessKeep result (D.faults keeper.new ≡ D.faults keeper.old) }
+        (λ lines last. Stands form every b lines last progress.new.number progress.new.chain
+        progress.new.waiting progress.new.held.items from (K.written sink.new)
+        (D.rows keeper.new) (D.is_honest keeper.new) (D.may_leave keeper.new))
+        (λ (more : List ℕ). lines_of ((taken ++ (bytes.now ++ 10 ∷ [])) ++ more))
+        (whole_from [] (taken ++ (bytes.now ++ 10 ∷ []))) from (K.written sink.new)) }
+    ensures writes { Moved (is_write_stop result) (K.faults sink.old) (K.faults sink.new) }
+    ensures keeps { Moved (is_keep_stop result) (D.faults keeper.old) (D.faults keeper.new) }
+    ensures honest { D.is_honest keeper.new → D.is_honest keeper.old }
 {
     if let Err(stop) = extend(progress.number, &mut progress.line, bytes) {
         return Err(stop);
     }
-    if let Err(stop) = take_line(
-        form,
-        alloc,
-        buffers,
-        sink,
-        keeper,
-        progress.number,
-        &mut progress.chain,
-        &progress.line,
-    ) {
+    if let Err(stop) = take_line(form, alloc, every, scratch, sink, keeper, progress) {
         return Err(stop);
     }
     progress.line.clear();
-    progress.number += 1;
     Ok(())
 }
 
@@ -125,47 +114,54 @@ fn end_line<K: Sink, D: Keeper>(
 ///
 /// # Errors
 /// Those of `take_line`, at the first line that is not answered, with its number; and `Long` also where that line has
-/// no end yet. The texts of the lines before it were written. `Keep` comes only where the keeper's count of faults
-/// rose, and `Write` only where the sink's did.
-pub fn feed<K: Sink, D: Keeper>(
+/// no end yet.
+pub(crate) fn feed<K: Sink, D: Keeper>(
     form: Form,
     alloc: Global,
-    buffers: &mut Buffers,
+    every: u64,
+    scratch: &mut Scratch,
     sink: &mut K,
     keeper: &mut D,
     progress: &mut Progress,
     piece: &[u8],
 ) -> Result<(), LineStop>
     requires number { progress.old.number + length piece.now < 2 ^ 63 }
-    requires short { length progress.old.line.items ≤ longest }
-    requires kept { (b : Began) × (s : Standing) × Keeping b progress.old.chain
-        (D.rows keeper.old) (D.is_honest keeper.old) (D.may_leave keeper.old) s }
-    ensures fed { (b : Began) → (s : Standing) → Keeping b progress.old.chain
-        (D.rows keeper.old) (D.is_honest keeper.old) (D.may_leave keeper.old) s
+    requires every { 0 < every }
+    requires fed { (b : Began) × (taken : List ℕ) × (end : Standing) × (from : Option (List ℕ))
+        × Fed form every b taken end progress.old.number
+        progress.old.line.items progress.old.chain progress.old.waiting progress.old.held.items
+        from (K.written sink.old)
+        (D.rows keeper.old) (D.is_honest keeper.old) (D.may_leave keeper.old) }
+    ensures fed { (b : Began) → (taken : List ℕ) → (end : Standing) → (from : Option (List ℕ))
+        → Fed form every b taken end progress.old.number
+        progress.old.line.items progress.old.chain progress.old.waiting progress.old.held.items
+        from (K.written sink.old)
+        (D.rows keeper.old) (D.is_honest keeper.old) (D.may_leave keeper.old)
         → OnOk result ((next : Standing)
-        × Fed form progress.old.number s progress.old.line.items piece.now
-        progress.new.number next progress.new.line.items (K.written sink.old) (K.written sink.new)
-        × Keeping b progress.new.chain
-        (D.rows keeper.new) (D.is_honest keeper.new) (D.may_leave keeper.new) next) }
-    ensures stops { (b : Began) → (s : Standing) → Keeping b progress.old.chain
-        (D.rows keeper.old) (D.is_honest keeper.old) (D.may_leave keeper.old) s
-        → IfErr result (PartStops form
+        × Fed form every b (taken ++ piece.now) next progress.new.number
+        progress.new.line.items progress.new.chain progress.new.waiting progress.new.held.items
+        from (K.written sink.new)
+        (D.rows keeper.new) (D.is_honest keeper.new) (D.may_leave keeper.new)) }
+    ensures stops { (b : Began) → (taken : List ℕ) → (end : Standing) → (from : Option (List ℕ))
+        → Fed form every b taken end progress.old.number
+        progress.old.line.items progress.old.chain progress.old.waiting progress.old.held.items
+        from (K.written sink.old)
+        (D.rows keeper.old) (D.is_honest keeper.old) (D.may_leave keeper.old)
+        → IfErr result (PartStops form every b.first
         (LeftIn b (D.rows keeper.new) (D.is_honest keeper.new) (D.may_leave keeper.new))
-        progress.old.number s (lines_after progress.old.line.items piece.now)
-        (whole_from progress.old.line.items piece.now) (K.written sink.old) (K.written sink.new)) }
-    ensures later { K.faults sink.old ≤ K.faults sink.new }
-    ensures cause { IsErrOf result LineStop.Write
-        → Rose (K.faults sink.old) (K.faults sink.new) }
-    ensures quiet { UnlessWrite result (K.faults sink.new ≡ K.faults sink.old) }
-    ensures keeps { IsLater (D.is_honest keeper.old) (D.is_honest keeper.new)
-        (D.faults keeper.old) (D.faults keeper.new) }
-    ensures keep_cause { IsErrOf result LineStop.Keep
-        → Rose (D.faults keeper.old) (D.faults keeper.new) }
-    ensures keep_quiet { UnlessKeep result (D.faults keeper.new ≡ D.faults keeper.old) }
+        (λ lines last. Stands form every b lines last progress.new.number progress.new.chain
+        progress.new.waiting progress.new.held.items from (K.written sink.new)
+        (D.rows keeper.new) (D.is_honest keeper.new) (D.may_leave keeper.new))
+        (λ (more : List ℕ). lines_of ((taken ++ piece.now) ++ more))
+        (whole_from [] (taken ++ piece.now)) from (K.written sink.new)) }
+    ensures writes { Moved (is_write_stop result) (K.faults sink.old) (K.faults sink.new) }
+    ensures keeps { Moved (is_keep_stop result) (D.faults keeper.old) (D.faults keeper.new) }
+    ensures honest { D.is_honest keeper.new → D.is_honest keeper.old }
 {
     let mut rest = piece;
     while let Some(end) = end_of_line(rest) {
-        if let Err(stop) = end_line(form, alloc, buffers, sink, keeper, progress, &rest[..end]) {
+        let line = &rest[..end];
+        if let Err(stop) = end_line(form, alloc, every, scratch, sink, keeper, progress, line) {
             return Err(stop);
         }
         rest = after(rest, end + 1);

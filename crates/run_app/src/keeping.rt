@@ -50,7 +50,7 @@ fn carry_out_kept<'a, L: Loan, S: Source, K: Sink, D: Keeper>(
     requires history { IfSome (D.rows keeper.old) IsHistory }
     requires knows { Knows (D.rows keeper.old) history.base history.visible }
     ensures same_reference { result.1.ghost_name ≡ keeper.entry.ghost_name }
-    ensures ends { ModeEnds form mode (by_source S.left source.old source.new)
+    ensures ends { ModeEnds form 1 mode (by_source S.left source.old source.new)
         (by_sink K.written sink.old sink.new)
         (visible (by_keeper D.rows D.is_honest D.may_leave keeper.old result.1.now)) result.0 }
     ensures became { HaveBecome (D.rows keeper.old) (D.rows result.1.now) }
@@ -65,7 +65,7 @@ fn carry_out_kept<'a, L: Loan, S: Source, K: Sink, D: Keeper>(
     ensures honest { D.is_honest result.1.now → D.is_honest keeper.old }
 {
     let mut over = HistoryKeeper::<D, L>::over(alloc, keeper, history);
-    let status = carry_out(form, alloc, mode, source, sink, &mut over);
+    let status = carry_out(form, alloc, 1, mode, source, sink, &mut over);
     (status, over.into_inner())
 }
 

@@ -1,8 +1,8 @@
 //! What words ask for: a command, in the way that the words before it say.
 
-ghost use Rattle.std.specs.Prelude.{◌≡◌, false, true};
+ghost use Rattle.std.specs.Prelude.{◌≡◌, ◌<◌, true};
 ghost use Rattle.run_app.specs.Commands.{WayEnds, WayUnkept, kept_way, past_way, way_of};
-ghost use Rattle.run_app.specs.Counts.{Moved, is_keep_fault, is_read_fault, is_write_fault};
+ghost use Rattle.run_app.specs.Counts.{Moved, ReadMoved, is_keep_fault, is_write_fault};
 ghost use Rattle.run_app.specs.Modes.{HasFewBlocks};
 ghost use Rattle.run_app.specs.Seen.{by_keeper, by_sink, by_source};
 ghost use Rattle.store_history.specs.Held.{TakesDistinct};
@@ -78,21 +78,30 @@ pub(crate) fn perform<S: Source, K: Sink, D: Keeper>(
     sink: &mut K,
     keeper: &mut D,
 ) -> Status
+    requires every { 0 < command.every }
     requires few { HasFewBlocks command.mode }
     requires takes { TakesDistinct (D.takes keeper.old) }
-    ensures ends { WayEnds command.form (way_of command) (by_source S.left source.old source.new)
+    ensures ends { WayEnds command.form command.every (way_of command) (by_source S.left source.old source.new)
         (by_sink K.written sink.old sink.new)
         (by_keeper D.rows D.is_honest D.may_leave keeper.old keeper.new) result }
     ensures busy { result ≡ Status.Usage → ⊥ }
     ensures unkept { D.keeps keeper.old ≡ false → WayUnkept (way_of command)
         (by_source S.left source.old source.new) (by_sink K.written sink.old sink.new) result }
-    ensures reads { Moved (is_read_fault result) (S.faults source.old) (S.faults source.new) }
+    ensures reads { ReadMoved command.every result (S.faults source.old) (S.faults source.new) }
     ensures writes { Moved (is_write_fault result) (K.faults sink.old) (K.faults sink.new)
         × (result ≡ Status.Done → K.clean sink.new ≡ true) }
     ensures keeps { Moved (is_keep_fault result) (D.faults keeper.old) (D.faults keeper.new) }
 {
     match way_of(&command) {
-        Way::Plain(mode) => carry_out(command.form, alloc, mode, source, sink, keeper),
+        Way::Plain(mode) => carry_out(
+            command.form,
+            alloc,
+            command.every,
+            mode,
+            source,
+            sink,
+            keeper,
+        ),
         Way::Kept(mode) => keep(command.form, alloc, mode, source, sink, keeper),
         Way::Past(height, what) => { answer_past(command.form, alloc, sink, keeper, height, &what) }
     }

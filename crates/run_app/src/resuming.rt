@@ -1,11 +1,11 @@
 //! The commands that go on from what a keeper has.
 
-ghost use Rattle.std.specs.Prelude.{◌≡◌, [], List, ℕ, Option, None, Ok, option_map, true, false, IfOk};
+ghost use Rattle.std.specs.Prelude.{◌≡◌, ◌<◌, [], List, ℕ, Option, None, Ok, option_map, true, false, IfOk};
 ghost use Rattle.rule_machine.specs.Report.{report_of};
 ghost use Rattle.chain_modules.specs.Kept.{StandsFor};
 ghost use Rattle.line_report.specs.Asking.{answered_by};
 ghost use Rattle.rule_modules.specs.Chain.{State};
-ghost use Rattle.run_app.specs.Counts.{Moved, is_keep_fault, is_read_fault, is_write_fault};
+ghost use Rattle.run_app.specs.Counts.{Moved, ReadMoved, is_keep_fault, is_read_fault, is_write_fault};
 ghost use Rattle.run_app.specs.Resumes.{Answers, QueryEnds, ResumeEnds, status_of_restore};
 ghost use Rattle.run_app.specs.Unkept.{FindsNoRows, IsOfNoRows};
 ghost use Rattle.run_app.specs.Writes.{Adds};
@@ -41,17 +41,19 @@ pub(crate) fn status_of_restore(fault: RestoreFault) -> Status
 pub(crate) fn resume<S: Source, K: Sink, D: Keeper>(
     form: Form,
     alloc: Global,
+    every: u64,
     source: &mut S,
     sink: &mut K,
     keeper: &mut D,
 ) -> Status
-    ensures ends { ResumeEnds form (by_source S.left source.old source.new)
+    requires every { 0 < every }
+    ensures ends { ResumeEnds form every (by_source S.left source.old source.new)
         (by_sink K.written sink.old sink.new)
         (by_keeper D.rows D.is_honest D.may_leave keeper.old keeper.new) result }
     ensures unkept { D.keeps keeper.old ≡ false → FindsNoRows
         (by_source S.left source.old source.new) (by_sink K.written sink.old sink.new) result }
     ensures busy { result ≡ Status.Usage → ⊥ }
-    ensures reads { Moved (is_read_fault result) (S.faults source.old) (S.faults source.new) }
+    ensures reads { ReadMoved every result (S.faults source.old) (S.faults source.new) }
     ensures writes { Moved (is_write_fault result) (K.faults sink.old) (K.faults sink.new)
         × (result ≡ Status.Done → K.clean sink.new ≡ true) }
     ensures keeps { Moved (is_keep_fault result) (D.faults keeper.old) (D.faults keeper.new) }
@@ -62,7 +64,15 @@ pub(crate) fn resume<S: Source, K: Sink, D: Keeper>(
         Err(fault) => return status_of_restore(fault),
     };
     match commit_migration(keeper, &restored.changes) {
-        Ok(()) => drive(form, alloc, source, sink, keeper, Some(restored.chain)),
+        Ok(()) => drive(
+            form,
+            alloc,
+            every,
+            source,
+            sink,
+            keeper,
+            Some(restored.chain),
+        ),
         Err(KeepFault::Failed) => Status::KeepFault,
         Err(KeepFault::NoMemory) => Status::NoMemory,
     }

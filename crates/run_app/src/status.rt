@@ -82,8 +82,6 @@ pub enum LineStop {
 /// Why the end of the output was not written.
 #[derive(Clone, Copy, Debug, PartialEq, Eq)]
 pub enum EndStop {
-    /// The last line was not answered.
-    Line(LineStop),
     /// The lines lead to no report: so many were answered, and the next is at fault.
     Lacking(u64, InputFault),
     Report,
@@ -120,7 +118,6 @@ pub fn status_at_end(stop: EndStop) -> Status
     ensures { result ≡ status_at_end stop }
 {
     match stop {
-        EndStop::Line(stop) => status_of(stop),
         EndStop::Lacking(n, fault) => Status::BadInput(n, fault),
         EndStop::Report => Status::WriteFault,
         EndStop::Flush => Status::WriteFault,

@@ -3,7 +3,7 @@ use Rattle.std.proofs.Common.{◌≡◌, ◌∙◌, ◌⊎◌, inl, inr, refl, a
 use Rattle.std.specs.List.{list_any}
 use Rattle.base_decimals.specs.Texts.{is_number, number_of}
 use Rattle.run_words.specs.{declared.mode.Mode.Mode, Questions.{address_asked, kind_asked, of_account}}
-use Rattle.run_words.specs.Words.{asking, at_height, behind_form, command_at, command_of, count_of, generating, height_of, is_bech32, is_keep, is_option, is_past, keeping, kept_mode, mode_of, of_pair, past_of, plain, seed_of, with_input, with_word}
+use Rattle.run_words.specs.Words.{asking, at_height, behind_form, command_at, command_of, committing, count_of, every_mode, every_of, generating, grouping, height_of, is_bech32, is_every, is_keep, is_option, is_past, keeping, kept_mode, mode_of, of_pair, past_of, plain, seed_of, with_input, with_word}
 use Rattle.run_words.proofs.ClapLemmas.{any_of_texts}
 use Rattle.run_words.specs.declared.mode.Mode.TheVariants as mode
 use Rattle.base_bech32.specs.declared.form.Form.{Form, TheVariants.{Hex, Bech32}}
@@ -19,6 +19,10 @@ three_none : {A : Type 0} (a b : Bool) (x y z : Option A) → x ≡ None → y �
 three_none true b x y z p q r = p
 three_none false b x y z p q r = both_none b y z q r
 
+four_none : {A : Type 0} (a b c : Bool) (x y z w : Option A) → x ≡ None → y ≡ None → z ≡ None → w ≡ None → cond a x (cond b y (cond c z w)) ≡ None
+four_none true b c x y z w p q r t = p
+four_none false b c x y z w p q r t = three_none b c y z w q r t
+
 -- more than five words behind the form are no command
 long_behind : (form : Form) (words : List (List ℕ)) → 5 < length words → behind_form form words ≡ None
 long_behind form [] h = absurd (omega (arith, h))
@@ -27,7 +31,7 @@ long_behind form (a ∷ b ∷ []) h = absurd (omega (arith, h))
 long_behind form (a ∷ b ∷ c ∷ []) h = absurd (omega (arith, h))
 long_behind form (a ∷ b ∷ c ∷ d ∷ []) h = absurd (omega (arith, h))
 long_behind form (a ∷ b ∷ c ∷ d ∷ e ∷ []) h = absurd (omega (arith, h))
-long_behind form (a ∷ b ∷ c ∷ d ∷ e ∷ f ∷ more) h = three_none (is_keep a) (is_past a) None None None refl refl refl
+long_behind form (a ∷ b ∷ c ∷ d ∷ e ∷ f ∷ more) h = four_none (is_keep a) (is_every a) (is_past a) None None None None refl refl refl refl
 
 -- nor are more than six words
 too_long : (words : List (List ℕ)) → 6 < length words → command_of words ≡ None
@@ -79,6 +83,10 @@ no_form (x ∷ xs) h = let is : x ≡ 45 = grind (arith, h) in rw is refl
 no_keep : (w : List ℕ) → is_option w ≡ true → is_keep w ≡ false
 no_keep [] h = absurd (true≢false (sym h))
 no_keep (x ∷ xs) h = let is : x ≡ 45 = grind (arith, h) in rw is refl
+
+no_every : (w : List ℕ) → is_option w ≡ true → is_every w ≡ false
+no_every [] h = absurd (true≢false (sym h))
+no_every (x ∷ xs) h = let is : x ≡ 45 = grind (arith, h) in rw is refl
 
 no_past : (w : List ℕ) → is_option w ≡ true → is_past w ≡ false
 no_past [] h = absurd (true≢false (sym h))
@@ -150,6 +158,13 @@ no_count [] h = absurd (true≢false (sym h))
 no_count (x ∷ xs) h =
     let is : x ≡ 45 = grind (arith, h) in
     let none : number_of 6 (45 ∷ xs) ≡ None = no_number 6 (45 ∷ xs) refl in
+    rw (is, none) refl
+
+not_every : (w : List ℕ) → is_option w ≡ true → every_of w ≡ None
+not_every [] h = absurd (true≢false (sym h))
+not_every (x ∷ xs) h =
+    let is : x ≡ 45 = grind (arith, h) in
+    let none : number_of 7 (45 ∷ xs) ≡ None = no_number 7 (45 ∷ xs) refl in
     rw (is, none) refl
 
 no_height : (w : List ℕ) → is_option w ≡ true → height_of w ≡ None
@@ -267,15 +282,29 @@ refused_past form (a ∷ b ∷ c ∷ d ∷ []) h = elim (either_true (is_option 
 ]
 refused_past form (a ∷ b ∷ c ∷ d ∷ e ∷ more) h = refl
 
+-- nor behind `every`
+without_name : (form : Form) (every : Option ℕ) → grouping form every None ≡ None
+without_name form None = refl
+without_name form (Some n) = refl
+
+refused_every : (form : Form) (words : List (List ℕ)) → list_any is_option words ≡ true → every_mode form words ≡ None
+refused_every form [] h = refl
+refused_every form (a ∷ []) h = refl
+refused_every form (a ∷ b ∷ []) h = elim (either_true (is_option a) (list_any is_option (b ∷ [])) h) [
+  | inl p ↦ ap (λ (every : Option ℕ). grouping form every (committing b)) (not_every a p)
+  | inr q ↦ ap (grouping form (every_of a)) (refused_kept (b ∷ []) q) ∙ without_name form (every_of a)
+]
+refused_every form (a ∷ b ∷ c ∷ more) h = refl
+
 -- nor are they one behind the word for a form
 refused_behind : (form : Form) (words : List (List ℕ)) → list_any is_option words ≡ true → behind_form form words ≡ None
 refused_behind form [] h = refl
 refused_behind form (word ∷ words) h =
     let none : plain form (mode_of form (word ∷ words)) ≡ None = ap (plain form) (refused_options form (word ∷ words) h) in
     elim (either_true (is_option word) (list_any is_option words) h) [
-      | inl p ↦ rw (no_keep word p, no_past word p) none
+      | inl p ↦ rw (no_keep word p, no_every word p, no_past word p) none
       | inr q ↦
-          three_none (is_keep word) (is_past word) (keeping form (kept_mode words)) (past_of form words) (plain form (mode_of form (word ∷ words))) (ap (keeping form) (refused_kept words q)) (refused_past form words q) none
+          four_none (is_keep word) (is_every word) (is_past word) (keeping form (kept_mode words)) (every_mode form words) (past_of form words) (plain form (mode_of form (word ∷ words))) (ap (keeping form) (refused_kept words q)) (refused_every form words q) (refused_past form words q) none
     ]
 
 refused_words : (words : List (List ℕ)) → list_any is_option words ≡ true → command_of words ≡ None

@@ -28,6 +28,12 @@ count_of word =
     if begins_with_zero word then None
     else option_and_then (λ n. if nat_le 1 n && nat_le n 100000 then Some n else None) (number_of 6 word)
 
+-- at how many blocks commits are made: from 1 to 1,000,000, without zeros in front
+abbrev pub every_of : List ℕ → Option ℕ
+every_of word =
+    if begins_with_zero word then None
+    else option_and_then (λ n. if nat_le 1 n && nat_le n 1000000 then Some n else None) (number_of 7 word)
+
 -- the height that the digit 0 alone spells
 abbrev pub zero_of : List ℕ → Option ℕ
 zero_of word = if bytes_eq word (codes "0") then Some 0 else None
@@ -104,24 +110,35 @@ is_bech32 word = bytes_eq word (codes "bech32")
 abbrev pub is_keep : List ℕ → Bool
 is_keep word = bytes_eq word (codes "keep")
 
+-- a word behind which the number of blocks stands at which commits are made
+abbrev pub is_every : List ℕ → Bool
+is_every word = bytes_eq word (codes "every")
+
 -- a word behind which a height stands
 abbrev pub is_past : List ℕ → Bool
 is_past word = bytes_eq word (codes "past")
 
--- the command, which keeps nothing that it replaces and asks nothing of the past
+-- the command, which keeps nothing that it replaces, commits at each block and asks nothing of the past
 abbrev pub plain : Form → Option Mode → Option Command
 plain form found =
-    option_map (λ m. record { form = form; keep = false; past = None; mode = m }) found
+    option_map (λ m. record { form = form; keep = false; every = 1; past = None; mode = m }) found
 
--- the command, which keeps what it replaces
+-- the command, which keeps what it replaces, of each block
 abbrev pub keeping : Form → Option Mode → Option Command
 keeping form found =
-    option_map (λ m. record { form = form; keep = true; past = None; mode = m }) found
+    option_map (λ m. record { form = form; keep = true; every = 1; past = None; mode = m }) found
+
+-- the command, which commits once for so many blocks
+abbrev pub grouping : Form → Option ℕ → Option Mode → Option Command
+grouping form (Some every) (Some m) =
+    Some (record { form = form; keep = false; every = every; past = None; mode = m })
+grouping form (Some every) None = None
+grouping form None found = None
 
 -- the command, which asks of the past at this height
 abbrev pub at_height : Form → Option ℕ → Option Mode → Option Command
 at_height form (Some height) (Some m) =
-    Some (record { form = form; keep = false; past = Some height; mode = m })
+    Some (record { form = form; keep = false; every = 1; past = Some height; mode = m })
 at_height form (Some height) None = None
 at_height form None found = None
 
@@ -130,6 +147,13 @@ abbrev pub kept_mode : List (List ℕ) → Option Mode
 kept_mode [] = None
 kept_mode (name ∷ []) = committing name
 kept_mode (name ∷ other ∷ others) = None
+
+-- behind `every`: a number of blocks, and `replay` or `resume`
+abbrev pub every_mode : Form → List (List ℕ) → Option Command
+every_mode form [] = None
+every_mode form (every ∷ []) = None
+every_mode form (every ∷ name ∷ []) = grouping form (every_of every) (committing name)
+every_mode form (every ∷ name ∷ other ∷ others) = None
 
 -- behind `past`: a height, and `query` with a kind, or with a kind and an address
 abbrev pub past_of : Form → List (List ℕ) → Option Command
@@ -142,13 +166,14 @@ past_of form (height ∷ name ∷ what ∷ text ∷ []) =
     at_height form (height_of height) (asking form name what text)
 past_of form (height ∷ name ∷ what ∷ text ∷ other ∷ others) = None
 
--- `keep` may stand before `replay` and `resume`, and `past` with a height before `query`
+-- `keep`, or `every` with a number of blocks, may stand before `replay` and `resume`, and `past` with a height before `query`
 abbrev pub behind_form : Form → List (List ℕ) → Option Command
 behind_form form [] = None
 behind_form form (word ∷ words) =
     if is_keep word then keeping form (kept_mode words)
+    else (if is_every word then every_mode form words
     else (if is_past word then past_of form words
-    else plain form (mode_of form (word ∷ words)))
+    else plain form (mode_of form (word ∷ words))))
 
 -- `bech32` may stand before all other words; without it addresses are hexadecimal
 abbrev pub command_of : List (List ℕ) → Option Command
@@ -172,6 +197,10 @@ abbrev pub kept_at : Place → Place → Option Mode
 kept_at (Some name) None = committing name
 kept_at _ _ = None
 
+abbrev pub every_at : Form → Place → Place → Place → Option Command
+every_at form (Some every) (Some name) None = grouping form (every_of every) (committing name)
+every_at form _ _ _ = None
+
 abbrev pub past_at : Form → Place → Place → Place → Place → Place → Option Command
 past_at form (Some height) (Some name) (Some what) None None =
     at_height form (height_of height) (with_word name what)
@@ -183,8 +212,9 @@ abbrev pub behind_at : Form → Place → Place → Place → Place → Place �
 behind_at form None second third fourth fifth sixth = None
 behind_at form (Some word) second third fourth fifth sixth =
     if is_keep word then keeping form (kept_at second third)
+    else (if is_every word then every_at form second third fourth
     else (if is_past word then past_at form second third fourth fifth sixth
-    else plain form (mode_at form (Some word) second third fourth))
+    else plain form (mode_at form (Some word) second third fourth)))
 
 abbrev pub command_at : Place → Place → Place → Place → Place → Place → Option Command
 command_at None second third fourth fifth sixth = None

@@ -12,10 +12,10 @@ use Rattle.run_words.specs.Words.{command_of}
 
 -- a command without the word for a form, and one behind `bech32`
 abbrev pub hex : Mode → Option Command
-hex m = Some (record { form = Hex; keep = false; past = None; mode = m })
+hex m = Some (record { form = Hex; keep = false; every = 1; past = None; mode = m })
 
 abbrev pub bech32 : Mode → Option Command
-bech32 m = Some (record { form = Bech32; keep = false; past = None; mode = m })
+bech32 m = Some (record { form = Bech32; keep = false; every = 1; past = None; mode = m })
 
 -- words that are a command
 pub record Commands : Type 0 where
@@ -142,10 +142,10 @@ pub record NotSpelled : Type 0 where
 
 -- a command that keeps what it replaces, and one that asks of a past height
 abbrev pub kept_in : Form → Mode → Option Command
-kept_in form m = Some (record { form = form; keep = true; past = None; mode = m })
+kept_in form m = Some (record { form = form; keep = true; every = 1; past = None; mode = m })
 
 abbrev pub past_in : Form → ℕ → Mode → Option Command
-past_in form height m = Some (record { form = form; keep = false; past = Some height; mode = m })
+past_in form height m = Some (record { form = form; keep = false; every = 1; past = Some height; mode = m })
 
 -- words behind `keep`, and behind `past`
 pub record Histories : Type 0 where
@@ -177,3 +177,34 @@ pub record NoHistories : Type 0 where
   pub too_great : command_of (codes "past" ∷ codes "9223372036854775808" ∷ codes "query" ∷ codes "supply" ∷ []) ≡ None
   pub keep_past : command_of (codes "keep" ∷ codes "past" ∷ codes "1" ∷ codes "query" ∷ codes "supply" ∷ []) ≡ None
   pub long : command_of (codes "bech32" ∷ codes "past" ∷ codes "1" ∷ codes "query" ∷ codes "account" ∷ user_text ∷ user_text ∷ []) ≡ None
+
+-- a command that commits once for so many blocks
+abbrev pub every_in : Form → ℕ → Mode → Option Command
+every_in form every m = Some (record { form = form; keep = false; every = every; past = None; mode = m })
+
+-- words behind `every`
+pub record Groups : Type 0 where
+  pub one : command_of (codes "every" ∷ codes "1" ∷ codes "replay" ∷ []) ≡ hex Replay
+  pub three : command_of (codes "every" ∷ codes "3" ∷ codes "replay" ∷ []) ≡ every_in Hex 3 Replay
+  pub greatest : command_of (codes "every" ∷ codes "1000000" ∷ codes "resume" ∷ []) ≡ every_in Hex 1000000 Resume
+  pub spelled : command_of (codes "bech32" ∷ codes "every" ∷ codes "50" ∷ codes "resume" ∷ []) ≡ every_in Bech32 50 Resume
+
+-- words that are none behind it
+pub record NoGroups : Type 0 where
+  pub alone : command_of (codes "every" ∷ []) ≡ None
+  pub no_command : command_of (codes "every" ∷ codes "3" ∷ []) ≡ None
+  pub no_number : command_of (codes "every" ∷ codes "replay" ∷ []) ≡ None
+  pub none : command_of (codes "every" ∷ codes "0" ∷ codes "replay" ∷ []) ≡ None
+  pub too_many : command_of (codes "every" ∷ codes "1000001" ∷ codes "replay" ∷ []) ≡ None
+  pub too_long : command_of (codes "every" ∷ codes "10000000" ∷ codes "replay" ∷ []) ≡ None
+  pub zero_first : command_of (codes "every" ∷ codes "01" ∷ codes "replay" ∷ []) ≡ None
+  pub signed : command_of (codes "every" ∷ codes "+1" ∷ codes "replay" ∷ []) ≡ None
+  pub empty : command_of (codes "every" ∷ [] ∷ codes "replay" ∷ []) ≡ None
+  pub twice : command_of (codes "every" ∷ codes "3" ∷ codes "every" ∷ codes "3" ∷ codes "replay" ∷ []) ≡ None
+  pub behind : command_of (codes "replay" ∷ codes "every" ∷ codes "3" ∷ []) ≡ None
+  pub kept : command_of (codes "every" ∷ codes "3" ∷ codes "keep" ∷ codes "replay" ∷ []) ≡ None
+  pub keeping : command_of (codes "keep" ∷ codes "every" ∷ codes "3" ∷ codes "replay" ∷ []) ≡ None
+  pub tally : command_of (codes "every" ∷ codes "3" ∷ codes "tally" ∷ []) ≡ None
+  pub query : command_of (codes "every" ∷ codes "3" ∷ codes "query" ∷ codes "supply" ∷ []) ≡ None
+  pub trial : command_of (codes "every" ∷ codes "3" ∷ codes "trial" ∷ codes "7" ∷ codes "10" ∷ []) ≡ None
+  pub form_behind : command_of (codes "every" ∷ codes "3" ∷ codes "bech32" ∷ codes "replay" ∷ []) ≡ None

@@ -1,5 +1,6 @@
 //! The commands, each with what its words say: `replay`, `resume`, `query`, `tally`, `check`, `statement`, `gen` and
-//! `trial`; and before them the word `bech32`, which tells the form of addresses, the word `keep`, and the word `past` with a height.
+//! `trial`; and before them the word `bech32`, which tells the form of addresses, the word `keep`, the word `every` with a number
+//! of blocks, and the word `past` with a height.
 use base_bech32::Form;
 use base_types::Account;
 use line_report::Query;
@@ -11,6 +12,8 @@ pub struct Command {
     pub form: Form,
     /// Whether what commits replace is kept: of a replay or a resume.
     pub keep: bool,
+    /// At how many blocks a replay or a resume commits, from 1 to 1,000,000: 1 of all other commands.
+    pub every: u64,
     /// The height whose past rows answer a query, from 0 to 2^63 - 1; without one the present rows do.
     pub past: Option<u64>,
     /// The command.

@@ -3,7 +3,7 @@ ghost use Rattle.std.specs.Prelude.{◌≡◌, ◌≤◌};
 ghost use Rattle.std.specs.Char.{is_ascii_digit};
 ghost use Rattle.std.specs.List.{list_all};
 ghost use Rattle.base_decimals.specs.Texts.{is_number, number_of};
-ghost use Rattle.run_words.specs.Words.{begins_with_zero, count_of, height_of, seed_of, zero_of};
+ghost use Rattle.run_words.specs.Words.{begins_with_zero, count_of, every_of, height_of, seed_of, zero_of};
 
 /// The most digits of a seed.
 const SEED_DIGITS: usize = 20;
@@ -11,11 +11,17 @@ const SEED_DIGITS: usize = 20;
 /// The most digits of a number of blocks.
 const COUNT_DIGITS: usize = 6;
 
+/// The most digits of a number of blocks for a commit.
+const EVERY_DIGITS: usize = 7;
+
 /// The most digits of a height.
 const HEIGHT_DIGITS: usize = 19;
 
 /// The most blocks.
 const MOST_BLOCKS: u128 = 100_000;
+
+/// The most blocks for a commit.
+const MOST_EVERY: u128 = 1_000_000;
 
 /// Whether each byte is a digit.
 fn are_digits(text: &[u8]) -> bool
@@ -72,6 +78,21 @@ pub(crate) fn count_of(word: &str) -> Option<u32>
     let number = number_of(word, COUNT_DIGITS)?;
     if 1 <= number && number <= MOST_BLOCKS {
         Some(number as u32)
+    } else {
+        None
+    }
+}
+
+/// At how many blocks commits are made: from 1 to 1,000,000, without zeros in front.
+pub(crate) fn every_of(word: &str) -> Option<u64>
+    ensures { result ≡ every_of word.now }
+{
+    if begins_with_zero(word.as_bytes()) {
+        return None;
+    }
+    let number = number_of(word, EVERY_DIGITS)?;
+    if 1 <= number && number <= MOST_EVERY {
+        Some(number as u64)
     } else {
         None
     }

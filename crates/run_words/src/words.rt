@@ -5,12 +5,12 @@ ghost use Rattle.clap.specs.Simple.{app_of};
 ghost use Rattle.clap.specs.Matches.{first_value, found_of};
 ghost use Rattle.line_json.specs.Addresses.{account_in, operator_asked};
 ghost use Rattle.run_words.specs.Line.{six};
-ghost use Rattle.run_words.specs.Words.{alone, asking, at_height, behind_at, command_at, command_of, committing, generating, is_option, keeping, kept_at, mode_at, of_pair, past_at, plain, with_word, with_words};
+ghost use Rattle.run_words.specs.Words.{alone, asking, at_height, behind_at, command_at, command_of, committing, every_at, generating, grouping, is_option, keeping, kept_at, mode_at, of_pair, past_at, plain, with_word, with_words};
 
 use crate::asked::{address_asked, kind_asked};
 use crate::fault::WordsFault;
 use crate::mode::{Command, Mode};
-use crate::numbers::{count_of, height_of, seed_of};
+use crate::numbers::{count_of, every_of, height_of, seed_of};
 use base_bech32::Form;
 use clap::error::ErrorKind;
 use clap::{Arg, ArgMatches};
@@ -184,7 +184,7 @@ fn mode_at(
     }
 }
 
-/// The command, which keeps nothing that it replaces and asks nothing of the past.
+/// The command, which keeps nothing that it replaces, commits at each block and asks nothing of the past.
 fn plain(form: Form, mode: Option<Mode>) -> Option<Command>
     ensures { result ≡ plain form mode }
 {
@@ -192,12 +192,13 @@ fn plain(form: Form, mode: Option<Mode>) -> Option<Command>
     Some(Command {
         form,
         keep: false,
+        every: 1,
         past: None,
         mode,
     })
 }
 
-/// The command, which keeps what it replaces.
+/// The command, which keeps what it replaces, of each block.
 fn keeping(form: Form, mode: Option<Mode>) -> Option<Command>
     ensures { result ≡ keeping form mode }
 {
@@ -205,6 +206,22 @@ fn keeping(form: Form, mode: Option<Mode>) -> Option<Command>
     Some(Command {
         form,
         keep: true,
+        every: 1,
+        past: None,
+        mode,
+    })
+}
+
+/// The command, which commits once for so many blocks.
+fn grouping(form: Form, every: Option<u64>, mode: Option<Mode>) -> Option<Command>
+    ensures { result ≡ grouping form every mode }
+{
+    let every = every?;
+    let mode = mode?;
+    Some(Command {
+        form,
+        keep: false,
+        every,
         past: None,
         mode,
     })
@@ -219,6 +236,7 @@ fn at_height(form: Form, height: Option<u64>, mode: Option<Mode>) -> Option<Comm
     Some(Command {
         form,
         keep: false,
+        every: 1,
         past: Some(height),
         mode,
     })
@@ -231,6 +249,22 @@ fn kept_at(name: Option<&str>, other: Option<&str>) -> Option<Mode>
 {
     match (name, other) {
         (Some(name), None) => committing(name),
+        _ => None,
+    }
+}
+
+/// The command of this name behind `every`, at so many blocks, where nothing stands behind it.
+fn every_at(
+    form: Form,
+    every: Option<&str>,
+    name: Option<&str>,
+    other: Option<&str>,
+) -> Option<Command>
+    ensures { result ≡ every_at form (option_map (λ w. w.now) every.entry)
+        (option_map (λ w. w.now) name.entry) (option_map (λ w. w.now) other.entry) }
+{
+    match (every, name, other) {
+        (Some(every), Some(name), None) => grouping(form, every_of(every), committing(name)),
         _ => None,
     }
 }
@@ -259,7 +293,7 @@ fn past_at(
     }
 }
 
-/// What is asked for by what stands at the places behind the word for the form: the first may be `keep` or `past`.
+/// What is asked for by what stands at the places behind the word for the form: the first may be `keep`, `every` or `past`.
 fn behind_at(
     form: Form,
     first: Option<&str>,
@@ -277,6 +311,8 @@ fn behind_at(
     let word = first?;
     if word == "keep" {
         keeping(form, kept_at(second, third))
+    } else if word == "every" {
+        every_at(form, second, third, fourth)
     } else if word == "past" {
         past_at(form, second, third, fourth, fifth, sixth)
     } else {
@@ -321,8 +357,9 @@ fn command_or_usage(found: Option<Command>) -> Result<Command, WordsFault>
 /// What the words ask for: `replay`; `resume`; `query` with `supply`, `pool` or `validators`; `query` with `account`,
 /// `validator`, `delegations`, `rewards`, `unbondings`, `redelegations` or `signing` and an address; `tally`; `check`; `gen
 /// SEED COUNT`, where SEED is 1 to 20 digits below 2^64 and COUNT is from 1 to 100,000 without zeros in front; or `trial SEED
-/// COUNT`. The word `keep` may stand before `replay` and `resume`, and the words `past HEIGHT` before `query`, where HEIGHT is
-/// digits without zeros in front, at most 2^63 - 1. The word `bech32` may stand before each of these.
+/// COUNT`. The word `keep`, or the words `every N`, may stand before `replay` and `resume`, where N is from 1 to 1,000,000
+/// without zeros in front, and the words `past HEIGHT` before `query`, where HEIGHT is digits without zeros in front, at most
+/// 2^63 - 1. The word `bech32` may stand before each of these.
 ///
 /// Behind `bech32` an address is a spelling of BIP 173, of `validator` with the prefix `cosmosvaloper`, of `signing` with
 /// `cosmosvalcons`, and of all others with `cosmos`; without that word forty hexadecimal digits with small letters.

@@ -2,8 +2,8 @@
 //! about a store, counts ballots over one, makes and checks reward statements, or writes input that it generates. STORE is
 //! the path of a database file, in which the chain's rows are kept, or `-`, and then nothing is kept. WORDS is `replay`,
 //! `resume`, `query` with a kind and perhaps an address, `tally`, `check`, `statement DELEGATOR OPERATOR`, `gen SEED COUNT`
-//! or `trial SEED COUNT`. The word `keep` may stand before `replay` and `resume`, the words `past HEIGHT` before `query`,
-//! and the word `bech32` before all others.
+//! or `trial SEED COUNT`. The word `keep`, or the words `every N`, may stand before `replay` and `resume`, the words
+//! `past HEIGHT` before `query`, and the word `bech32` before all others.
 #![tactic(auto)]
 
 mod place;

@@ -2,7 +2,7 @@
 
 use crate::whole::{
     Fronts, KEPT, KEPT_ON, LINES, NEW, OLD, ON, Start, WHOLE, are_behind, are_same, begun,
-    command_behind, input_behind, lines_within, make_fronts, text_of, visible,
+    command_behind, grouped_command, input_behind, lines_within, make_fronts, text_of, visible,
 };
 use base_io::{MemKeeper, MemSink, MemSource, Row};
 use run_app::{Status, run};
@@ -161,5 +161,64 @@ fn each_failed_call_of_the_keeper_leaves_what_it_had(rt: HostRuntime) {
             let exit = exit_of(call < calls, Status::KeepFault, text, kept);
             assert!(rt; exits(&rt, &fronts, start, Failing::Keeper, call, &exit));
         }
+    }
+}
+
+/// What each failed write leaves of a replay that commits at each second block: the text of so many lines, and the rows behind
+/// so many. The genesis is written alone, then two blocks, then one, then the report; and the last call is the flush.
+const GROUPED: [(u32, u32); 5] = [(0, 1), (1, 3), (3, LINES), (LINES, LINES), (WHOLE, LINES)];
+
+/// Whether a replay that commits at each Nth block ends so where this call fails.
+fn grouped_exits(
+    rt: &(impl Abort + AllocGlobal),
+    fronts: &Fronts,
+    every: &str,
+    failing: Failing,
+    call: u32,
+    exit: &Exit,
+) -> bool {
+    let reads = calls(rt, Failing::Source, failing, call);
+    let mut source = MemSource::new(input_behind(rt, fronts, 0), PIECE, reads);
+    let mut sink = MemSink::new(rt.alloc(), calls(rt, Failing::Sink, failing, call));
+    let keeps = calls(rt, Failing::Keeper, failing, call);
+    let mut keeper = MemKeeper::new(rt.alloc(), Vec::new(rt.alloc()), keeps);
+    let words = grouped_command(rt, every);
+    let status = run(rt.alloc(), &words, &mut source, &mut sink, &mut keeper);
+    status == exit.status
+        && text_of(rt, fronts, exit.text) == sink.bytes()
+        && are_left(rt, fronts, NEW, exit.kept, &visible(rt, keeper.rows()))
+}
+
+#[test]
+fn blocks_that_are_committed_together_leave_what_single_ones_do(rt: HostRuntime) {
+    let fronts = make_fronts(&rt);
+    let exit = exit_of(false, Status::Done, WHOLE, Some(LINES));
+    for every in ["1", "2", "3", "1000000"] {
+        assert!(rt; grouped_exits(&rt, &fronts, every, Failing::Sink, 100, &exit));
+    }
+}
+
+#[test]
+fn a_failed_write_of_a_batch_leaves_the_texts_before_it(rt: HostRuntime) {
+    let fronts = make_fronts(&rt);
+    let mut call = 0u32;
+    for (text, kept) in GROUPED {
+        let exit = exit_of(true, Status::WriteFault, text, Some(kept));
+        assert!(rt; grouped_exits(&rt, &fronts, "2", Failing::Sink, call, &exit));
+        call = call.saturating_add(1);
+    }
+}
+
+#[test]
+fn a_failed_read_leaves_the_lines_that_waited(rt: HostRuntime) {
+    let fronts = make_fronts(&rt);
+    let input = input_behind(&rt, &fronts, 0);
+    let reads = u32::try_from(input.len().div_ceil(PIECE));
+    let reads = reads.ok().expect(&rt, "few reads");
+    for call in 0..reads.saturating_add(1) {
+        let bytes = (call as usize).saturating_mul(PIECE);
+        let ended = lines_within(&input, bytes);
+        let exit = exit_of(true, Status::ReadFault, ended, Some(ended));
+        assert!(rt; grouped_exits(&rt, &fronts, "1000000", Failing::Source, call, &exit));
     }
 }

@@ -119,6 +119,11 @@ pub(crate) fn command_behind(
     }
 }
 
+/// The words of a replay that commits at each Nth block.
+pub(crate) fn grouped_command(rt: &(impl Abort + AllocGlobal), every: &str) -> Vec<String> {
+    words(rt, &["every", every, "replay"])
+}
+
 /// Whether a key is of no row of a history.
 fn is_visible(key: &[u8]) -> bool {
     match key {

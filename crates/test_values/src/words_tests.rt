@@ -27,6 +27,7 @@ fn hex(mode: Mode) -> Result<Command, WordsFault> {
     Ok(Command {
         form: Form::Hex,
         keep: false,
+        every: 1,
         past: None,
         mode,
     })
@@ -37,6 +38,7 @@ fn bech32(mode: Mode) -> Result<Command, WordsFault> {
     Ok(Command {
         form: Form::Bech32,
         keep: false,
+        every: 1,
         past: None,
         mode,
     })
@@ -47,6 +49,18 @@ fn kept(form: Form, mode: Mode) -> Result<Command, WordsFault> {
     Ok(Command {
         form,
         keep: true,
+        every: 1,
+        past: None,
+        mode,
+    })
+}
+
+/// A command that commits once for so many blocks.
+fn grouped(form: Form, every: u64, mode: Mode) -> Result<Command, WordsFault> {
+    Ok(Command {
+        form,
+        keep: false,
+        every,
         past: None,
         mode,
     })
@@ -57,6 +71,7 @@ fn past(form: Form, height: u64, what: Query) -> Result<Command, WordsFault> {
     Ok(Command {
         form,
         keep: false,
+        every: 1,
         past: Some(height),
         mode: Mode::Query(what),
     })
@@ -222,5 +237,26 @@ fn other_words_are_no_command(rt: HostRuntime) -> Result<(), Fail> {
         assert!(rt; read(alloc, line) == Err(WordsFault::Usage), "{line}");
     }
     assert!(rt; read_words(alloc, &[]) == Err(WordsFault::Usage));
+    Ok(())
+}
+
+#[test]
+fn blocks_may_be_committed_together(rt: HostRuntime) -> Result<(), Fail> {
+    let alloc: Global = rt.alloc();
+    assert!(rt; read(alloc, "every 1 replay") == hex(Mode::Replay));
+    assert!(rt; read(alloc, "every 3 replay") == grouped(Form::Hex, 3, Mode::Replay));
+    assert!(rt;
+        read(alloc, "bech32 every 1000000 resume") == grouped(Form::Bech32, 1_000_000, Mode::Resume)
+    );
+    for line in [
+        "every 0 replay",
+        "every 1000001 replay",
+        "every 01 replay",
+        "every 3 keep replay",
+        "keep every 3 replay",
+        "every 3 tally",
+    ] {
+        assert!(rt; read(alloc, line) == Err(WordsFault::Usage));
+    }
     Ok(())
 }

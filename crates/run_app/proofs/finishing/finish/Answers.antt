@@ -1,58 +1,30 @@
-use Rattle.std.proofs.Common.{◌≡◌, ◌<◌, length, refl, rules}
-use Rattle.std.proofs.lemmas.Result.{on_ok_weaker}
-use Rattle.run_app.proofs.{KeepLemmas.{later_still, left_of}, CountLemmas.{part_keeps, part_writes, report_keeps}}
-use Rattle.run_app.proofs.PartLemmas.{last_stops, line_done, line_report_all, none_done, none_report_all}
+use Rattle.run_app.proofs.CountLemmas.{begun_at_end, end_keeps, end_reads, end_undone, missing_so}
+use Rattle.run_app.proofs.PartLemmas.{done_status, end_status}
 use Rattle.run_app.proofs.finishing.finish.Goals as goal
 
-pub returns-then-is_empty-clause-done : goal.returns-then-is_empty-clause-done
-returns-then-is_empty-clause-done g c =
-    let none : length c.args.line.now ≡ 0 = search rules in
-    λ b s k. on_ok_weaker c.report.result (none_done c.args.form _ _ s _ _ _ none (left_of b _ _ _ _ s k)) (c.report.ensures.written s k.stands)
+pub returns-in-Ok-clause-status : goal.returns-in-Ok-clause-status
+returns-in-Ok-clause-status g c = λ s stood. done_status c.args.form s _ _ (c.in-Ok.ensures.written s stood)
 
-pub returns-then-is_empty-clause-stops : goal.returns-then-is_empty-clause-stops
-returns-then-is_empty-clause-stops g c =
-    let none : length c.args.line.now ≡ 0 = search rules in
-    λ b s k. none_report_all c.args.form _ c.report.result _ s _ _ _ none (left_of b _ _ _ _ s k) c.report.ensures.no_line (c.report.ensures.stops s k.stands)
+pub returns-in-Err-clause-status : goal.returns-in-Err-clause-status
+returns-in-Err-clause-status g c = λ s stood. rw c.status_at_end.ensures (end_status c.args.form s _ _ c.in-Err.stop (c.in-Err.ensures.stops s stood))
 
-pub returns-in-Err-clause-stops : goal.returns-in-Err-clause-stops
-returns-in-Err-clause-stops g c =
-    let some : 0 < length c.args.line.now = search rules in
-    λ b s k. last_stops c.args.form _ _ s _ _ _ c.in-Err.stop some (c.in-Err.ensures.stops b s k)
+pub returns-in-Err-clause-begun : goal.returns-in-Err-clause-begun
+returns-in-Err-clause-begun g c = rw c.status_at_end.ensures (begun_at_end c.in-Err.stop)
 
-pub returns-clause-done : goal.returns-clause-done
-returns-clause-done g c =
-    let some : 0 < length c.args.line.now = search rules in
-    λ b s k.
-    let t = c.in_default.ensures.took b s k in
-    on_ok_weaker c.report-2.result (line_done c.args.form _ _ s t.0 _ _ _ _ some t.1 (left_of b _ _ _ _ t.0 t.2)) (c.report-2.ensures.written t.0 t.2.stands)
+pub returns-in-Err-clause-read : goal.returns-in-Err-clause-read
+returns-in-Err-clause-read g c = rw c.status_at_end.ensures (end_reads c.in-Err.stop)
 
-pub returns-clause-stops : goal.returns-clause-stops
-returns-clause-stops g c =
-    let some : 0 < length c.args.line.now = search rules in
-    λ b s k.
-    let t = c.in_default.ensures.took b s k in
-    line_report_all c.args.form _ c.report-2.result _ s t.0 _ _ _ _ some t.1 (left_of b _ _ _ _ t.0 t.2) c.report-2.ensures.no_line (c.report-2.ensures.stops t.0 t.2.stands)
+pub returns-in-Err-clause-keep : goal.returns-in-Err-clause-keep
+returns-in-Err-clause-keep g c = rw c.status_at_end.ensures (end_keeps c.in-Err.stop)
 
-pub returns-then-is_empty-clause-keeper_later : goal.returns-then-is_empty-clause-keeper_later
-returns-then-is_empty-clause-keeper_later g c = later_still _ _
+pub returns-in-Ok-clause-missing : goal.returns-in-Ok-clause-missing
+returns-in-Ok-clause-missing g c = λ none. let never = c.in-Ok.ensures.missing none in absurd cc
 
-pub returns-in-Err-clause-keeper_later : goal.returns-in-Err-clause-keeper_later
-returns-in-Err-clause-keeper_later g c = c.take_line.ensures.keeps
+pub returns-in-Err-clause-missing : goal.returns-in-Err-clause-missing
+returns-in-Err-clause-missing g c = λ none. rw c.status_at_end.ensures (missing_so c.in-Err.stop 1 _ (c.in-Err.ensures.missing none))
 
-pub returns-clause-keeper_later : goal.returns-clause-keeper_later
-returns-clause-keeper_later g c = c.take_line.ensures.keeps
+pub returns-in-Ok-clause-writes : goal.returns-in-Ok-clause-writes
+returns-in-Ok-clause-writes g c = (c.in-Ok.ensures.writes.0, λ e. c.in-Ok.ensures.writes.1)
 
 pub returns-in-Err-clause-writes : goal.returns-in-Err-clause-writes
-returns-in-Err-clause-writes g c = (part_writes c.in-Err.stop _ _ c.in-Err.ensures.cause c.in-Err.ensures.quiet, tt)
-
-pub returns-clause-writes : goal.returns-clause-writes
-returns-clause-writes g c = rw (← c.in_default.ensures.quiet) c.report-2.ensures.writes
-
-pub returns-then-is_empty-clause-keeps : goal.returns-then-is_empty-clause-keeps
-returns-then-is_empty-clause-keeps g c = report_keeps c.report.result _ _ c.report.ensures.no_line refl
-
-pub returns-in-Err-clause-keeps : goal.returns-in-Err-clause-keeps
-returns-in-Err-clause-keeps g c = part_keeps c.in-Err.stop _ _ c.in-Err.ensures.keep_cause c.in-Err.ensures.keep_quiet
-
-pub returns-clause-keeps : goal.returns-clause-keeps
-returns-clause-keeps g c = report_keeps c.report-2.result _ _ c.report-2.ensures.no_line c.in_default.ensures.keep_quiet
+returns-in-Err-clause-writes g c = rw c.status_at_end.ensures (c.in-Err.ensures.writes.0, λ e. absurd (end_undone c.in-Err.stop e))

@@ -16,7 +16,7 @@ returns-in-Ok-clause-ends g c =
     let e = c.read_history.ensures in
     let back : c.keeper-1.given.0 ≡ c.carry_out_kept-status.result.1.now = search rules in
     rw back (inl (record {
-      ends = kept_before c.args.form c.args.mode c.requires.commits _ _ _ _ _ _ _ _ _ _ _ _ _ e.same c.in-Ok.ensures.told e.stop c.carry_out_kept-status.ensures.honest c.carry_out_kept-status.ensures.ends;
+      ends = kept_before c.args.form 1 c.args.mode c.requires.commits _ _ _ _ _ _ _ _ _ _ _ _ _ e.same c.in-Ok.ensures.told e.stop c.carry_out_kept-status.ensures.honest c.carry_out_kept-status.ensures.ends;
       became = become_before _ _ _ e.same c.carry_out_kept-status.ensures.became;
       history = c.carry_out_kept-status.ensures.history;
     }))
@@ -24,7 +24,7 @@ returns-in-Ok-clause-ends g c =
 pub returns-in-Ok-clause-unkept : goal.returns-in-Ok-clause-unkept
 returns-in-Ok-clause-unkept g c = λ off.
     let unkept = c.carry_out_kept-status.ensures.unkept (g.met.D.Keeper.keeps_alike c.read_history.new.keeper c.args.keeper.now ∙ off) in
-    (unkept, never_bad_store c.args.form c.args.mode _ _ _ _ _ _ _ _ _ c.carry_out_kept-status.result.0 c.requires.commits c.carry_out_kept-status.ensures.ends unkept)
+    (unkept, never_bad_store c.args.form 1 c.args.mode _ _ _ _ _ _ _ _ _ c.carry_out_kept-status.result.0 c.requires.commits c.carry_out_kept-status.ensures.ends unkept)
 
 pub returns-in-Err-clause-ends : goal.returns-in-Err-clause-ends
 returns-in-Err-clause-ends g c =

@@ -1,5 +1,6 @@
-use Rattle.run_app.proofs.LineLemmas.{not_read_stops, not_applied_stops}
-use Rattle.run_app.proofs.AnswerLemmas.{block_not_read, steps_on, faults_on}
+use Rattle.std.proofs.Common.{refl}
+use Rattle.run_app.proofs.AnswerLemmas.{block_not_read, faults_on, stays_on, steps_on}
+use Rattle.run_app.proofs.LineLemmas.{unless_so}
 use Rattle.run_app.proofs.line.advance.Goals as goal
 
 pub returns-in-Err-clause-err : goal.returns-in-Err-clause-err
@@ -11,10 +12,10 @@ returns-in-Err-apply_block-clause-err c = λ p s.
 
 pub returns-in-Ok-push_lines_of_block-clause-ok : goal.returns-in-Ok-push_lines_of_block-clause-ok
 returns-in-Ok-push_lines_of_block-clause-ok c = λ p s.
-    steps_on c.args.form _ _ c.in-Ok.block p c.in-Ok-apply_block.report c.apply_block.new.self _ c.in-Ok.ensures (c.in-Ok-apply_block.ensures.applies p s) (rw c.requires at c.in-Ok-push_lines_of_block.ensures.text)
+    steps_on c.args.form _ _ c.in-Ok.block p c.in-Ok-apply_block.report c.apply_block.new.self _ _ c.in-Ok.ensures (c.in-Ok-apply_block.ensures.applies p s) c.in-Ok-push_lines_of_block.ensures.text
 
-pub returns-in-Err-clause-of_line : goal.returns-in-Err-clause-of_line
-returns-in-Err-clause-of_line c = rw c.not_read.ensures (not_read_stops _ c.in-Err.fault _)
+pub returns-in-Err-clause-stays : goal.returns-in-Err-clause-stays
+returns-in-Err-clause-stays c = unless_so _ _ (refl, refl, refl)
 
-pub returns-in-Err-apply_block-clause-of_line : goal.returns-in-Err-apply_block-clause-of_line
-returns-in-Err-apply_block-clause-of_line c = rw c.not_applied.ensures (not_applied_stops _ c.in-Err-apply_block.fault _)
+pub returns-in-Err-apply_block-clause-stays : goal.returns-in-Err-apply_block-clause-stays
+returns-in-Err-apply_block-clause-stays c = rw c.not_applied.ensures (stays_on _ _ _ c.args.number c.in-Err-apply_block.fault _ refl c.in-Err-apply_block.ensures.leaves)

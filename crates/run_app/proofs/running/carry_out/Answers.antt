@@ -1,5 +1,5 @@
 use Rattle.std.proofs.Common.{refl}
-use Rattle.run_app.proofs.ModeLemmas.{untouched}
+use Rattle.run_app.proofs.{CountLemmas.{quiet_read, still_read}, ModeLemmas.untouched}
 use Rattle.run_app.proofs.running.carry_out.Goals as goal
 
 pub returns-in-Gen-clause-ends : goal.returns-in-Gen-clause-ends
@@ -54,10 +54,19 @@ pub returns-in-Tally-clause-unkept : goal.returns-in-Tally-clause-unkept
 returns-in-Tally-clause-unkept g c = rw c.in-Tally.is c.tally.ensures.unkept
 
 pub returns-in-Query-clause-reads : goal.returns-in-Query-clause-reads
-returns-in-Query-clause-reads g c = rw c.answer.ensures.read refl
+returns-in-Query-clause-reads g c = quiet_read c.args.every c.answer.result _ _ c.answer.ensures.read refl
 
 pub returns-in-Gen-clause-reads : goal.returns-in-Gen-clause-reads
-returns-in-Gen-clause-reads g c = rw c.write_generated.ensures.read refl
+returns-in-Gen-clause-reads g c = quiet_read c.args.every c.write_generated.result _ _ c.write_generated.ensures.read refl
 
 pub returns-in-Trial-clause-reads : goal.returns-in-Trial-clause-reads
-returns-in-Trial-clause-reads g c = rw c.write_trial.ensures.read refl
+returns-in-Trial-clause-reads g c = quiet_read c.args.every c.write_trial.result _ _ c.write_trial.ensures.read refl
+
+pub returns-in-Check-clause-reads : goal.returns-in-Check-clause-reads
+returns-in-Check-clause-reads g c = still_read c.args.every c.check_all.result _ _ c.check_all.ensures.reads
+
+pub returns-in-Statement-clause-reads : goal.returns-in-Statement-clause-reads
+returns-in-Statement-clause-reads g c = still_read c.args.every c.state_all.result _ _ c.state_all.ensures.reads
+
+pub returns-in-Tally-clause-reads : goal.returns-in-Tally-clause-reads
+returns-in-Tally-clause-reads g c = still_read c.args.every c.tally.result _ _ c.tally.ensures.reads

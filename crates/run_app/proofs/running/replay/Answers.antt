@@ -6,12 +6,12 @@ use Rattle.run_app.proofs.running.replay.Goals as goal
 pub drive-requires : goal.drive-requires
 drive-requires g c =
     let e = c.has_rows.ensures in
-    record { kept = (on_none _, None, begins_on_none _ _ _ _ (e.none (c.in-Ok-false.is ∙ ap Ok c.in-Ok-false.field-0-test)) e.same c.in-Ok-false.ensures.told e.settled) }
+    record { every = c.requires.every; kept = (on_none _, begins_on_none _ _ _ _ (e.none (c.in-Ok-false.is ∙ ap Ok c.in-Ok-false.field-0-test)) e.same c.in-Ok-false.ensures.told e.settled) }
 
 pub returns-in-Ok-false-clause-ends : goal.returns-in-Ok-false-clause-ends
 returns-in-Ok-false-clause-ends g c =
     let e = c.has_rows.ensures in
-    inl (c.drive.ensures.ends (on_none _) None (begins_on_none _ _ _ _ (e.none (c.in-Ok-false.is ∙ ap Ok c.in-Ok-false.field-0-test)) e.same c.in-Ok-false.ensures.told e.settled))
+    inl (c.drive.ensures.ends (on_none _) (begins_on_none _ _ _ _ (e.none (c.in-Ok-false.is ∙ ap Ok c.in-Ok-false.field-0-test)) e.same c.in-Ok-false.ensures.told e.settled))
 
 pub returns-in-Ok-true-clause-ends : goal.returns-in-Ok-true-clause-ends
 returns-in-Ok-true-clause-ends g c =
