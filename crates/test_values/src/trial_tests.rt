@@ -2,6 +2,7 @@
 
 ghost use Rattle.std.specs.Prelude.{◌≡◌, ◌<◌, ◌≤◌, ◌^◌};
 
+use crate::checks::holds;
 use crate::role_tests::empty_ground;
 use crate::values::{dec, moment, user, validator};
 use base_coins::DecCoins;
@@ -44,11 +45,9 @@ fn trials_are_slashed<L: Ledger>(rt: &(impl Abort + AllocGlobal), blank: Blank) 
         5,
         &mut steps,
     );
-    unbondings == Ok(0)
-        && followed == Ok(0)
-        && redelegations_are_slashed(rt, &v, half, &mut steps)
-        && is_slashed(rt, &v, half, &mut steps)
-        && is_jailed(rt, &v, &mut steps)
+    let redelegations = redelegations_are_slashed(rt, &v, half, &mut steps);
+    let validator = is_slashed(rt, &v, half, &mut steps) & is_jailed(rt, &v, &mut steps);
+    (unbondings == Ok(0)) & (followed == Ok(0)) & redelegations & validator
 }
 
 /// Whether no redelegation is slashed where there is none.
@@ -101,6 +100,13 @@ fn is_slashed<L: Ledger>(
     ) == Ok(0)
 }
 
+fn has_jailed(found: Option<&Validator>) -> bool {
+    match found {
+        Some(v) => v.jailed,
+        None => false,
+    }
+}
+
 /// Whether the validator is found and jailed, which is told.
 fn is_jailed<L: Ledger>(
     rt: &(impl Abort + AllocGlobal),
@@ -109,13 +115,9 @@ fn is_jailed<L: Ledger>(
 ) -> bool {
     let mut facts = Facts::new(rt.alloc());
     let mut one = one(rt, v);
-    if one.by_cons(&v.cons, steps).is_none() {
-        return false;
-    }
+    let is_found = one.by_cons(&v.cons, steps).is_some();
     let done = one.jail(rt.alloc(), &mut facts, &v.cons, steps);
-    done == Ok(())
-        && facts.len() == 1
-        && one.validator(&v.operator, steps).is_some_and(|v| v.jailed)
+    is_found & (done == Ok(())) & (facts.len() == 1) & has_jailed(one.validator(&v.operator, steps))
 }
 
 /// The validator, with a delegation of one share.
@@ -174,13 +176,11 @@ fn is_banned<L: Ledger>(rt: &(impl Abort + AllocGlobal), blank: Blank) -> bool
             tombstoned: false,
         },
     };
-    if signer.info(&ConsAddr::of([8; 20]), &mut steps).is_some()
-        || signer.info(&cons, &mut steps).is_none()
-    {
-        return false;
-    }
+    let is_other = signer.info(&ConsAddr::of([8; 20]), &mut steps).is_none();
+    let is_known = signer.info(&cons, &mut steps).is_some();
     let done = signer.ban(rt.alloc(), &cons, moment(rt, 5), &mut steps);
-    done == Ok(()) && signer.info.tombstoned && signer.info.jailed_until == moment(rt, 5)
+    let is_jailed = signer.info.tombstoned & (signer.info.jailed_until == moment(rt, 5));
+    is_other & is_known & (done == Ok(())) & is_jailed
 }
 
 /// Whether the marks of a module without records nest, and it lists nothing.
@@ -207,13 +207,17 @@ fn marks_nest<L: Ledger>(rt: &(impl Abort + AllocGlobal), blank: Blank) -> bool
     none.back(&mut steps);
     none.forget(&mut steps);
     none.settle(&mut steps);
-    items.len() == 0 && changes.len() == 0 && !loaded && none.open == 0
+    (items.len() == 0) & (changes.len() == 0) & !loaded & (none.open == 0)
 }
 
 #[test]
 fn each_trait_has_a_value(rt: HostRuntime) {
-    assert!(rt; trials_are_slashed::<Brand>(&rt, Blank::new(1)));
-    assert!(rt; wants_memory::<Brand>(&rt, Blank::new(1)));
-    assert!(rt; is_banned::<Brand>(&rt, Blank::new(1)));
-    assert!(rt; marks_nest::<Brand>(&rt, Blank::new(1)));
+    holds(
+        &rt,
+        "slashed",
+        trials_are_slashed::<Brand>(&rt, Blank::new(1)),
+    );
+    holds(&rt, "no memory", wants_memory::<Brand>(&rt, Blank::new(1)));
+    holds(&rt, "banned", is_banned::<Brand>(&rt, Blank::new(1)));
+    holds(&rt, "marks", marks_nest::<Brand>(&rt, Blank::new(1)));
 }
