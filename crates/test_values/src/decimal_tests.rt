@@ -114,7 +114,7 @@ fn of_part(rt: &impl Abort, call: &str, tokens: u128, shares: Dec, part: Dec) ->
     requires tokens { tokens ≤ 10 ^ 18 }
     requires some { 0 < shares }
 {
-    assert!(rt; part <= shares);
+    assert!(rt; part.raw() <= shares.raw());
     match call {
         "ValueEven" => value_even(tokens, shares, part).raw(),
         "ValueCut" => value_cut(tokens, shares, part).raw(),
