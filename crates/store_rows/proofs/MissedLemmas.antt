@@ -4,7 +4,8 @@ use Rattle.std.{specs.List.{AllByRecursion, splice}, proofs.lemmas.Bool.{and_fro
 use Rattle.std.proofs.Math.Seq.{drop-append_seam, take-append_seam}
 use Rattle.std.proofs.lemmas.List.{drop_all, drop_more, length-replicate, replicate_more, take_more}
 use Rattle.std.proofs.lemmas.Grind.{flat_map-append}
-use Rattle.store_rows.specs.{Fields.{four_bytes, missed_from, missed_of, missed_ring_bytes}, Reading.{are_places, comes_next, places_with}}
+use Rattle.store_rows.specs.Fields.{four_bytes, missed_from, missed_of, missed_ring_bytes}
+use Rattle.store_rows.specs.Reading.{are_places, comes_next, places_with}
 
 -- ---- the missed places of a window
 

@@ -1,7 +1,6 @@
 use Rattle.std.proofs.Common.{◌≡◌, ◌∙◌, ◌+◌, ◌-◌, ◌/◌, rules, length, take_at, ap, arith}
 use Rattle.std.specs.List.{splice}
-use Rattle.store_rows.specs.Fields.{four_bytes, missed_of}
-use Rattle.store_rows.proofs.MissedLemmas.{count_told, missed_few, ring_written}
+use Rattle.store_rows.{specs.Fields.{four_bytes, missed_of}, proofs.MissedLemmas.{count_told, missed_few, ring_written}}
 use Rattle.store_rows.proofs.missed.push_missed_ring.Goals as goal
 
 pub set_len-requires-clause-within : goal.set_len-requires-clause-within
