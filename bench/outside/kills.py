@@ -1,6 +1,6 @@
 #!/usr/bin/env python3
 """Kills a replay over a store by signal 9 at random moments, and shows that nothing is lost:
-bench/outside/kills.py [--kills 500] [--blocks 100] [--seed 7] [--only NUMBER] [--keep]
+bench/outside/kills.py [--kills 500] [--blocks 100] [--seed 7] [--only NUMBER] [--keep | --every N]
 
 The input is `gen SEED BLOCKS`. A whole run tells the rows after each line: it is given a line once it has answered the
 one before, and in between the store is read. Each kill then has a store of its own, a moment drawn from the time that a
@@ -9,18 +9,19 @@ After each kill
 
   - what was printed is a front of the whole output;
   - the rows, read by Python's sqlite3 from a copy of the files, are none, or those after a front of the lines that holds
-    each line of whose text a byte was printed;
+    each line of whose text a byte was printed, and at most one line more;
   - `resume` with the lines behind that front (`replay` of all where there are no rows) prints the rest of the whole
     output, and leaves the rows of the whole run. One in three of these is killed too, and judged the same way.
 
 With `--keep` each of these commands is given the word `keep` before it, and the rows of the history are judged with the
-others.
+others. With `--every N` what is killed is given the words `every N`, and the rows may be those of at most N lines more; the
+rows after each line, and what goes on behind the last kill, are those of runs without these words.
 
 A run that ends before its moment counts as no kill. Kill NUMBER draws from `SEED NUMBER`, so `--only` draws the same
 moment again. Ends with 0 where all of this held at each kill, with 1 at the first where it did not; its files stay."""
 import argparse, collections, os, random, select, subprocess, sys, time
 
-from runs import KEPT, PROGRAM, Whole, Wrong, carry_out, folder, generated, ran, rows_of, tell
+from runs import KEPT, PROGRAM, Whole, Wrong, ask, carry_out, folder, generated, ran, rows_of, tell
 
 ALL = 1 << 62
 
@@ -41,10 +42,11 @@ def printed_until(process, moment, most):
 
 
 class Kills:
-    """Kills, and how often each kind of end was met."""
+    """Kills of runs with these words before the command, and how often each kind of end was met."""
 
-    def __init__(self, whole, span):
-        self.whole, self.span, self.seen = whole, span, collections.Counter()
+    def __init__(self, whole, words, together):
+        self.whole, self.words, self.together, self.seen = whole, words, together, collections.Counter()
+        self.span = sorted(span_of(whole, words) for _ in range(3))[1]
 
     def stopped(self, store, first, draw):
         """Runs behind the first lines and kills that; how many lines' rows stand then, and whether it was killed."""
@@ -54,13 +56,13 @@ class Kills:
         given = store.parent / "given"
         given.write_bytes(b"".join(self.whole.lines[first:]))
         with given.open("rb") as lines:
-            words = [PROGRAM, str(store), *KEPT, "resume" if first else "replay"]
+            words = [PROGRAM, str(store), *self.words, "resume" if first else "replay"]
             process = subprocess.Popen(words, stdin=lines, stdout=-1, stderr=-1)
             printed = printed_until(process, moment, most)
         said = process.stderr.read()
         if process.wait() not in (0, -9) or said:
             raise Wrong(f"it ended with {process.returncode}, {said.decode()}")
-        kept = self.whole.judge(printed, rows_of(store), first)
+        kept = self.whole.judge(printed, rows_of(store), first, self.together)
         if process.returncode == 0:
             self.seen["ended before its moment"] += 1
             return kept, False
@@ -90,11 +92,12 @@ class Kills:
         return was_killed
 
 
-def span_of(whole):
-    """How long a whole replay over a store takes."""
+def span_of(whole, words):
+    """How long a whole replay over a store takes, with these words before it."""
     with folder() as room:
         begin = time.monotonic()
-        ran(room / "store", [*KEPT, "replay"], b"".join(whole.lines))
+        ended = ran(room / "store", [*words, "replay"], b"".join(whole.lines))
+        ask(ended == (0, whole.output, ""), f"a replay over a store ended with {ended[0]}, {ended[2]}, or printed other lines")
         return time.monotonic() - begin
 
 
@@ -102,13 +105,14 @@ def main():
     words = argparse.ArgumentParser()
     for name, number in (("kills", 500), ("blocks", 100), ("seed", 7), ("only", None)):
         words.add_argument(f"--{name}", type=int, default=number)
-    words.add_argument("--keep", action="store_true")
+    way = words.add_mutually_exclusive_group()
+    way.add_argument("--keep", action="store_true")
+    way.add_argument("--every", type=int, default=0, metavar="N")
     given = words.parse_args()
     KEPT.extend(["keep"] * given.keep)
     whole = Whole(generated(given.seed, given.blocks))
-    span = sorted(span_of(whole) for _ in range(3))[1]
-    print(f"seed {given.seed}, {given.blocks} blocks; a replay over a store takes {span:.3f} s", flush=True)
-    kills, number = Kills(whole, span), given.only or 0
+    kills, number = Kills(whole, ["every", str(given.every)] if given.every else KEPT, given.every or 1), given.only or 0
+    print(f"seed {given.seed}, {given.blocks} blocks; a replay over a store takes {kills.span:.3f} s", flush=True)
     while kills.seen["replays killed"] < (1 if given.only else given.kills):
         try:
             kills.kill(random.Random(f"{given.seed} {number}"))

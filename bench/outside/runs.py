@@ -112,8 +112,9 @@ class Whole:
         if not self.resumes:
             print("this program cannot resume: what is kept is judged, and not gone on with", flush=True)
 
-    def judge(self, printed, rows, first=0):
-        """Of how many lines the rows are, after a run that began behind the first of them; what it printed has to agree."""
+    def judge(self, printed, rows, first=0, together=None):
+        """Of how many lines the rows are, after a run that began behind the first of them; what it printed has to agree. Where
+        that is all that it wrote, and it commits at most so many lines together, no more than these are ahead of it."""
         kept = self.place.get(tuple(rows)) if rows else 0
         ask(kept is not None, "the rows are those of no front of the lines")
         ask(kept >= first, f"the rows are those of {kept} lines, and of {first} before")
@@ -124,6 +125,8 @@ class Whole:
             begun += length < len(printed)
             length += len(text)
         ask(begun <= kept, f"the texts of {begun} lines were printed or begun, and the rows are those of {kept}")
+        ahead = kept - begun if together else 0
+        ask(ahead <= (together or 0), f"of {kept} lines that are kept the texts of {ahead} were not begun")
         return kept
 
     def go_on(self, store, kept):
