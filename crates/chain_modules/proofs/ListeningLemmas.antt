@@ -3,7 +3,7 @@ use Rattle.std.proofs.Common.{◌≡◌, ◌∙◌, ℕ, ◌+◌, ◌≤◌, Lis
 use Rattle.std.specs.Prelude.{⊤}
 use Rattle.base_roles.specs.{declared.{faults.HookFault.HookFault, items.Item.Item}, Answers.Answers, Extra.Listens}
 use Rattle.base_roles.specs.{Hooks.{Tells, MayCall, Lawful}, Listeners.listener_tells, Log.Log}
-use Rattle.base_roles.specs.World.{View, Hook, Told, gives, exceeds}
+use Rattle.base_roles.specs.{World.{View, Told, gives, exceeds}, declared.calls.Hook.Hook}
 use Rattle.base_roles.proofs.ListenLemmas.{quiet_may}
 
 -- A listener that is called, of which the laws say what it heard.

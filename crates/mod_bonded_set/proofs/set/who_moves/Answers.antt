@@ -1,7 +1,7 @@
 use Rattle.std.proofs.Common.{◌∙◌, sym, subst, option_map}
 use Rattle.mod_staking.specs.{KnownSet.AreSet, Places.standing}
-use Rattle.mod_bonded_set.specs.Sets.{IsUnmoved}
-use Rattle.mod_bonded_set.proofs.{KnownLemmas.{none-join, none-leave, unmoved_if}, StakeLemmas.{sound_ascend, sound_keyed}}
+use Rattle.mod_bonded_set.{specs.Sets.IsUnmoved, proofs.KnownLemmas.{none-join, none-leave, unmoved_if}}
+use Rattle.mod_bonded_set.proofs.StakeLemmas.{sound_ascend, sound_keyed}
 use Rattle.mod_bonded_set.proofs.set.who_moves.Goals as goal
 
 pub returns-then-knows_set-clause-joining : goal.returns-then-knows_set-clause-joining
