@@ -14,14 +14,16 @@ After each kill
     output, and leaves the rows of the whole run. One in three of these is killed too, and judged the same way.
 
 With `--keep` each of these commands is given the word `keep` before it, and the rows of the history are judged with the
-others. With `--every N` what is killed is given the words `every N`, and the rows may be those of at most N lines more; the
-rows after each line, and what goes on behind the last kill, are those of runs without these words.
+others. With `--every N` each of these commands is given the words `every N`: the rows are then those after a front of
+which each part is one commit, and at most N lines more are kept than were printed.
 
 A run that ends before its moment counts as no kill. Kill NUMBER draws from `SEED NUMBER`, so `--only` draws the same
 moment again. Ends with 0 where all of this held at each kill, with 1 at the first where it did not; its files stay."""
 import argparse, collections, os, random, select, subprocess, sys, time
 
-from runs import KEPT, PROGRAM, Whole, Wrong, ask, carry_out, folder, generated, ran, rows_of, tell
+from runs import (
+    KEPT, PROGRAM, Whole, Wrong, add_every, begin_words, carry_out, folder, generated, ran, rows_of, take_every, tell,
+)
 
 ALL = 1 << 62
 
@@ -42,11 +44,10 @@ def printed_until(process, moment, most):
 
 
 class Kills:
-    """Kills of runs with these words before the command, and how often each kind of end was met."""
+    """Kills, and how often each kind of end was met."""
 
-    def __init__(self, whole, words, together):
-        self.whole, self.words, self.together, self.seen = whole, words, together, collections.Counter()
-        self.span = sorted(span_of(whole, words) for _ in range(3))[1]
+    def __init__(self, whole, span):
+        self.whole, self.span, self.seen = whole, span, collections.Counter()
 
     def stopped(self, store, first, draw):
         """Runs behind the first lines and kills that; how many lines' rows stand then, and whether it was killed."""
@@ -56,13 +57,13 @@ class Kills:
         given = store.parent / "given"
         given.write_bytes(b"".join(self.whole.lines[first:]))
         with given.open("rb") as lines:
-            words = [PROGRAM, str(store), *self.words, "resume" if first else "replay"]
+            words = [PROGRAM, str(store), *begin_words(first)]
             process = subprocess.Popen(words, stdin=lines, stdout=-1, stderr=-1)
             printed = printed_until(process, moment, most)
         said = process.stderr.read()
         if process.wait() not in (0, -9) or said:
             raise Wrong(f"it ended with {process.returncode}, {said.decode()}")
-        kept = self.whole.judge(printed, rows_of(store), first, self.together)
+        kept = self.whole.judge(printed, rows_of(store), first)
         if process.returncode == 0:
             self.seen["ended before its moment"] += 1
             return kept, False
@@ -72,11 +73,11 @@ class Kills:
     def note(self, printed, first, kept):
         """Counts a kill by what it left."""
         ends = [len(b"".join(self.whole.texts[first:place])) for place in range(first, len(self.whole.texts) + 1)]
+        ahead = kept - self.whole.begun(printed, first)
         self.seen["resumes killed" if first else "replays killed"] += 1
         self.seen["with no rows"] += kept == 0
-        self.seen["with a line kept of which nothing was printed"] += (
-            kept > first and len(printed) <= ends[kept - first - 1]
-        )
+        self.seen["with a line kept of which nothing was printed"] += ahead > 0
+        self.seen["with more than one such line"] += ahead > 1
         self.seen["within a text"] += len(printed) not in ends
         self.seen["within the report, or behind it"] += len(printed) > ends[-2]
 
@@ -92,12 +93,11 @@ class Kills:
         return was_killed
 
 
-def span_of(whole, words):
-    """How long a whole replay over a store takes, with these words before it."""
+def span_of(whole):
+    """How long a whole replay over a store takes."""
     with folder() as room:
         begin = time.monotonic()
-        ended = ran(room / "store", [*words, "replay"], b"".join(whole.lines))
-        ask(ended == (0, whole.output, ""), f"a replay over a store ended with {ended[0]}, {ended[2]}, or printed other lines")
+        ran(room / "store", begin_words(0), b"".join(whole.lines))
         return time.monotonic() - begin
 
 
@@ -105,14 +105,16 @@ def main():
     words = argparse.ArgumentParser()
     for name, number in (("kills", 500), ("blocks", 100), ("seed", 7), ("only", None)):
         words.add_argument(f"--{name}", type=int, default=number)
-    way = words.add_mutually_exclusive_group()
-    way.add_argument("--keep", action="store_true")
-    way.add_argument("--every", type=int, default=0, metavar="N")
+    ways = words.add_mutually_exclusive_group()
+    ways.add_argument("--keep", action="store_true")
+    add_every(ways)
     given = words.parse_args()
     KEPT.extend(["keep"] * given.keep)
+    take_every(given.every)
     whole = Whole(generated(given.seed, given.blocks))
-    kills, number = Kills(whole, ["every", str(given.every)] if given.every else KEPT, given.every or 1), given.only or 0
-    print(f"seed {given.seed}, {given.blocks} blocks; a replay over a store takes {kills.span:.3f} s", flush=True)
+    span = sorted(span_of(whole) for _ in range(3))[1]
+    print(f"seed {given.seed}, {given.blocks} blocks; a replay over a store takes {span:.3f} s", flush=True)
+    kills, number = Kills(whole, span), given.only or 0
     while kills.seen["replays killed"] < (1 if given.only else given.kills):
         try:
             kills.kill(random.Random(f"{given.seed} {number}"))
