@@ -1,10 +1,8 @@
 -- At N = 1 a batch is a line.
 use Rattle.std.proofs.Common.{◌≡◌, ◌∙◌, ◌⊎◌, inl, inr, ℕ, ◌+◌, ◌<◌, ◌≤◌, List, [], ◌∷◌, ◌++◌, length, Ok, refl, sym, ap, append-nil, arith}
 use Rattle.base_bech32.specs.declared.form.Form.{Form}
-use Rattle.run_app.specs.Alone.{AnsweredNext, AreWritten, EachLineAlone, LacksOfOne}
-use Rattle.run_app.specs.Machine.{Answer, Standing, line_answer}
-use Rattle.run_app.specs.{Runs.{AreAnswered, Batched}, Stops.LacksOfLast}
-use Rattle.run_app.proofs.CountLemmas.{one_read, still_read}
+use Rattle.run_app.specs.{Alone.{AnsweredNext, AreWritten, EachLineAlone, LacksOfOne}, Machine.{Standing, line_answer}}
+use Rattle.run_app.{specs.{Runs.{AreAnswered, Batched}, Stops.LacksOfLast}, proofs.CountLemmas.{one_read, still_read}}
 
 -- one line that is answered has an answer of this text, which leads there
 only : (form : Form) (n : ℕ) (s : Standing) (line text : List ℕ) (end : Standing) → AreAnswered form n s (line ∷ []) text end → line_answer form n s line ≡ Ok (record { text = text; standing = end })

@@ -16,8 +16,7 @@ use Rattle.chain_blocks.specs.Answers.{Applies}
 use Rattle.chain_whole.specs.{Answers.{LeavesChain, Starts}, Chained.{Chained, Listened}}
 use Rattle.run_app.specs.declared.status.LineStop.{LineStop}
 use Rattle.run_app.specs.Machine.{Standing, Answer, StandsAt, HoldsAnswer, longest, not_read, begun, told, started_answer, genesis_answer, not_applied, applied_answer, block_answer, answer_within, line_answer, report_of}
-use Rattle.run_app.specs.Runs.{ran_report, Reported}
-use Rattle.run_app.specs.Parts.{IsFault, Grows, Finishes, FinishStops, UnlessNoMemory}
+use Rattle.run_app.specs.{Runs.{ran_report, Reported}, Parts.{IsFault, Grows, Finishes, FinishStops, UnlessNoMemory}}
 use Rattle.run_app.proofs.{PartLemmas.untold, RunLemmas.no_growth}
 use Rattle.run_app.specs.declared.status.LineStop.TheVariants as stop
 use Rattle.run_app.specs.declared.status.EndStop.TheVariants as ends

@@ -16,10 +16,10 @@ use Rattle.run_app.specs.{Lines.{lines_of, lines_from, whole_from, rest_from}, M
 use Rattle.run_app.specs.{Modes.{ModeEnds, ReplayEnds}, Outcome.{AreEnded, Ends, Passed, RunEnds}}
 use Rattle.run_app.specs.Runs.{AreAnswered, Batched, Named, Wrote, Unkept, Held, Answered, Reported, Lacking, Finished}
 use Rattle.run_app.specs.{Resumes.ResumeEnds, declared.performing.Way.{Way, TheVariants.{Plain, Kept, Past}}}
-use Rattle.run_app.specs.{Commands.{CommandStops, WayStops, way_of}, Stops.{AreRowsBehind, LacksOfLast, ModeStops, RunStops}}
-use Rattle.run_app.specs.{Told.IsToldAs, Writes.Adds, Seen.{keeper_told, sink_told, source_told}}
-use Rattle.run_app.proofs.{CutLemmas.lines-append, RunLemmas.{answered-append, no_growth}}
-use Rattle.run_app.proofs.WholeLemmas.{Reports, reports}
+use Rattle.run_app.specs.Commands.{CommandStops, WayStops, way_of}
+use Rattle.run_app.specs.{Stops.{AreRowsBehind, LacksOfLast, ModeStops, RunStops}, Told.IsToldAs, Writes.Adds}
+use Rattle.run_app.{specs.Seen.{keeper_told, sink_told, source_told}, proofs.CutLemmas.lines-append}
+use Rattle.run_app.proofs.{RunLemmas.{answered-append, no_growth}, WholeLemmas.{Reports, reports}}
 use Rattle.store_history.specs.Held.{ShowsLeft, shown}
 
 -- ---- fronts of texts
