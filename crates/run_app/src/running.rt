@@ -1,11 +1,11 @@
 //! The commands: `run` reads the words of one, carries it out over a source, a sink and a keeper, and tells by a status
 //! how it ended.
 
-ghost use Rattle.std.specs.Prelude.{◌≡◌, ◌≤◌, ◌<◌, ◌^◌, ◌+◌, ◌⊎◌, [], ◌∷◌, List, ℕ, Option, Some, None, length, map, string_bytes, true, false, MatchResult};
+ghost use Rattle.std.specs.Prelude.{◌≡◌, ◌≤◌, ◌<◌, ◌^◌, ◌+◌, ◌⊎◌, [], List, ℕ, Option, None, length, map, string_bytes, true, false, MatchResult};
 ghost use Rattle.base_bech32.specs.declared.form.Form.{Form};
 ghost use Rattle.base_io.specs.Outside.{Rose};
 ghost use Rattle.run_app.specs.Alone.{EachLineAlone};
-ghost use Rattle.run_app.specs.Counts.{IsOfWords, Moved, ReadMoved, every_of, is_keep_fault, is_read_fault, is_write_fault};
+ghost use Rattle.run_app.specs.Counts.{IsOfWords, Moved, ReadMoved, every_of, is_keep_fault, is_write_fault};
 ghost use Rattle.run_app.specs.Kept.{Began, Keeping, LeftIn};
 ghost use Rattle.run_app.specs.Machine.{Standing};
 ghost use Rattle.run_words.specs.Words.{command_of};
