@@ -87,9 +87,10 @@ fn is_copied<T: Copied + PartialEq>(value: T) -> bool {
 
 #[test]
 fn copies_of_validators_and_entries_are_equal(rt: HostRuntime) {
-    let (one, early, validator) = (dec(&rt, 1), moment(&rt, 7), validator(&rt, 5));
-    holds(&rt, "a validator", is_copied(validator));
-    holds(&rt, "a commission", is_copied(validator.commission));
+    let (one, early) = (dec(&rt, 1), moment(&rt, 7));
+    holds(&rt, "a validator", is_copied(validator(&rt, 5)));
+    let commission = validator(&rt, 5).commission;
+    holds(&rt, "a commission", is_copied(commission));
     holds(&rt, "a delegation", is_copied(Delegation::of(one)));
     let unbonding = UnbondingEntry {
         created: 1,
@@ -134,12 +135,12 @@ fn copies_of_signing_and_of_periods_are_equal(rt: HostRuntime) {
 
 #[test]
 fn copies_of_what_a_block_tells_are_equal(rt: HostRuntime) {
-    let (early, cons, params) = (moment(&rt, 7), ConsAddr::of([9; 20]), params(&rt));
-    holds(&rt, "parameters", is_copied(params));
+    let (early, cons) = (moment(&rt, 7), ConsAddr::of([9; 20]));
+    holds(&rt, "parameters", is_copied(params(&rt)));
     let ctx = Ctx {
         height: 1,
         time: early,
-        params,
+        params: params(&rt),
     };
     holds(&rt, "a context", is_copied(ctx));
     let vote = Vote {

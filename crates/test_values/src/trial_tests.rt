@@ -100,13 +100,6 @@ fn is_slashed<L: Ledger>(
     ) == Ok(0)
 }
 
-fn has_jailed(found: Option<&Validator>) -> bool {
-    match found {
-        Some(v) => v.jailed,
-        None => false,
-    }
-}
-
 /// Whether the validator is found and jailed, which is told.
 fn is_jailed<L: Ledger>(
     rt: &(impl Abort + AllocGlobal),
@@ -115,9 +108,13 @@ fn is_jailed<L: Ledger>(
 ) -> bool {
     let mut facts = Facts::new(rt.alloc());
     let mut one = one(rt, v);
-    let is_found = one.by_cons(&v.cons, steps).is_some();
+    if one.by_cons(&v.cons, steps).is_none() {
+        return false;
+    }
     let done = one.jail(rt.alloc(), &mut facts, &v.cons, steps);
-    is_found & (done == Ok(())) & (facts.len() == 1) & has_jailed(one.validator(&v.operator, steps))
+    done == Ok(())
+        && facts.len() == 1
+        && one.validator(&v.operator, steps).is_some_and(|v| v.jailed)
 }
 
 /// The validator, with a delegation of one share.
