@@ -8,6 +8,7 @@ and the completions, where there are programs that read them.
 """
 from __future__ import annotations
 
+import concurrent.futures
 import itertools
 import json
 import os
@@ -32,14 +33,13 @@ OPERATOR, USER = "02" + "07" * 19, "03" + "07" * 19
 START = 0.020   # seconds of a processor
 
 Done = tuple[int, bytes, bytes]
+asked: list[str] = []   # what was asked, and what of it does not hold
 bad: list[str] = []
-count = 0
 
 
 def ask(holds: object, text: str) -> None:
-    """Counts what is asked, and notes what does not hold."""
-    global count
-    count += 1
+    """Notes what is asked, and what does not hold."""
+    asked.append(text)
     if not holds:
         bad.append(text)
 
@@ -300,9 +300,17 @@ def children_of(pid: int) -> list[int]:
     return [int(word) for word in found.read_text().split()] if found.exists() else []
 
 
+def is_program(pid: int) -> bool:
+    """Whether a process runs the program."""
+    try:
+        return os.readlink(f"/proc/{pid}/exe") == str(PROGRAM)
+    except OSError:     # it has ended
+        return False
+
+
 def until(holds: Callable[[], object]) -> object:
     """What a condition gives, once it holds or some seconds have passed."""
-    end = time.monotonic() + 20
+    end = time.monotonic() + 60
     while time.monotonic() < end:
         if found := holds():
             return found
@@ -316,19 +324,18 @@ def try_signals() -> None:
         for name in "TERM", "HUP", "INT", "QUIT", "KILL of the program":
             with subprocess.Popen([str(SCRIPT), "replay"], stdin=subprocess.PIPE, stdout=subprocess.PIPE, stderr=subprocess.PIPE, cwd=room,
                                   env=around(STAKEPLAY=str(PROGRAM))) as running:
-                pid = until(lambda: next((child for child in children_of(running.pid)
-                                          if os.readlink(f"/proc/{child}/exe") == str(PROGRAM)), 0))
+                pid = until(lambda: next(filter(is_program, children_of(running.pid)), 0))
                 number = getattr(signal, f"SIG{name.split()[0]}")
                 if pid:
                     os.kill(pid if " " in name else running.pid, number)
-                running.wait(20)
+                running.wait(60)
                 is_gone = until(lambda: not pathlib.Path(f"/proc/{pid}").exists())
                 ended = 128 + number if name == "QUIT" else -number     # which shells ignore
                 ask(pid and is_gone and running.returncode == ended and running.stderr.read() == b"",
                     f"signal {name}: the script ended with {running.returncode}, the program {'went' if is_gone else 'stays'}")
         with subprocess.Popen([str(SCRIPT), "replay"], stdin=subprocess.PIPE, stdout=subprocess.PIPE, cwd=room,
                               env=around(STAKEPLAY=str(PROGRAM), STAKEPLAY_PLAIN="1")) as running:
-            is_itself = until(lambda: os.readlink(f"/proc/{running.pid}/exe") == str(PROGRAM))
+            is_itself = until(lambda: is_program(running.pid))
             ask(is_itself, "behind STAKEPLAY_PLAIN the script does not become the program")
             running.kill()
 
@@ -474,17 +481,26 @@ def try_tools() -> None:
         ask(done[1].decode().split() == wanted and not done[2], f"zsh offers for {words}: {told(done)}")
 
 
-def main() -> int:
-    for part in try_plain, try_order, try_wrong, try_help, try_links, try_signals, try_files, try_stale, try_start, try_tools:
-        began, before = time.monotonic(), count
+def timed(part: Callable[[], None]) -> None:
+    """Tries a part; behind -v it is said how long it took. A part that breaks off is at fault."""
+    began = time.monotonic()
+    try:
         part()
-        if "-v" in sys.argv:
-            print(f"commands: {part.__name__}: {count - before} in {time.monotonic() - began:.1f} s")
+    except (OSError, subprocess.SubprocessError) as fault:
+        ask(False, f"{part.__name__} broke off: {fault}")
+    if "-v" in sys.argv:
+        print(f"commands: {part.__name__} in {time.monotonic() - began:.1f} s", flush=True)
+
+
+def main() -> int:
+    with concurrent.futures.ThreadPoolExecutor(4) as pool:  # most of the time is waited for processes
+        list(pool.map(timed, (try_plain, try_order, try_wrong, try_help, try_links, try_signals, try_files, try_stale, try_tools)))
+    timed(try_start)
     for text in bad:
         print(f"commands: {text}")
     if not KNOWS_EVERY:
         print("commands: left out: runs of every N, which this program does not know")
-    print(f"commands: {count} calls, {len(bad)} not as they are to be")
+    print(f"commands: {len(asked)} calls, {len(bad)} not as they are to be")
     return 1 if bad else 0
 
 

@@ -7,7 +7,7 @@ EXAMPLES = pathlib.Path("examples")
 DATA = EXAMPLES / "recipes/data"
 PAGES = ["README.md", "CONTRIBUTING.md", "docs/COMMANDS.md", "docs/FORMATS.md", "docs/OPERATING.md", "docs/RECIPES.md", "docs/FROM_A_NODE.md"]
 # the words that begin a command; what else is indented shows code, files or words
-BEGINS = re.compile(r"(bash|cd|curl|head|python3|rt|seq|sqlite3|tail|tar) |\./stakeplay\.sh |\w+=")
+BEGINS = re.compile(r"(bash|cd|curl|head|python3|rt|seq|sqlite3|tail|tar) |\./(stakeplay|install)\.sh |\w+=")
 OPERATOR, USER = "02" + "07" * 19, "5" * 40
 PAYING = "1" * 40  # the operator of the example's history whose validator pays the user twice
 MARK = "@@@"
@@ -58,7 +58,8 @@ def new_room(room):
     """A folder as a reader's, with the script, which runs the program that is tried, and the chain's own program beside it."""
     for folder in (EXAMPLES, "python"):
         shutil.copytree(folder, room / folder, ignore=shutil.ignore_patterns("__pycache__"))
-    bodies = {"stakeplay.sh": f'STAKEPLAY="{PROGRAM}" exec bash "{SCRIPT}" "$@"', "simd": 'cp "examples/recipes/data/export_$3.json" "$5"'}
+    bodies = {"stakeplay.sh": f'STAKEPLAY="{PROGRAM}" exec bash "{SCRIPT}" "$@"',
+              "install.sh": f'STAKEPLAY="{PROGRAM}" exec bash "{SCRIPT.with_name("install.sh")}" "$@"', "simd": 'cp "examples/recipes/data/export_$3.json" "$5"'}
     for name, body in bodies.items():
         (room / name).write_text(f"#!/bin/sh\n{body}\n")
         (room / name).chmod(0o755)
@@ -129,6 +130,7 @@ ROWS = [
     ("README.md", "head -n 4", "", {}, [begins, writes(REST), spelled_rewards, finds_right]),
     ("CONTRIBUTING.md", "cd crates/mod_staking", None, {}, None),
     ("docs/FORMATS.md", "sqlite3 FILE", REPLAYED, {"FILE": "chain.db"}, [writes(f"{851:032X}\n")]),
+    ("docs/OPERATING.md", "./install.sh", "", {"/usr/local": "$PWD/there"}, [says("installed in"), says("taken away from")]),
     ("docs/OPERATING.md", "sqlite3 chain.db", REPLAYED, {}, [writes("4\n")]),
     ("docs/OPERATING.md", "python3 -c", REPLAYED, {}, [writes("4\n")]),
     ("docs/OPERATING.md", "H=..", REPLAYED, {"H=..": "H=4", "all.jsonl": "examples/history.jsonl"},

@@ -393,6 +393,8 @@ class Calls:
             rows = [[*call, "more"], [*call, "--bech32", "--bech32"], ["stakeplay.sh", name.upper(), *call[2:]],
                     *([*call, flag] for flag in flags), *([call[0], flag, *call[1:]] for flag in ("--nothing", "-s"))]
             yield from (Call(row, status=1, many_lines=True) for row in rows)
+        for words in ([], ["a", "b"], ["--remove"], ["--remove", "no/such"], ["--nothing"], [""], ["-x"], ["--remove", ""]):
+            yield Call(["install.sh", *words])
         for text in WRONG_COUNTS:
             yield from (Call(["stakeplay.sh", name, "7", text], status=1, many_lines=True) for name in ("gen", "trial"))
         for text in WRONG_HEIGHTS:
@@ -416,7 +418,7 @@ def started(call: Call, room: str) -> Ending:
     if words[0] == "stakeplay":
         command = [sys.executable, "-m", *words]
     else:
-        path = ROOT / words[0] if words[0] == "stakeplay.sh" else RECIPES / words[0]
+        path = ROOT / words[0] if words[0] in ("stakeplay.sh", "install.sh") else RECIPES / words[0]
         command = ["bash" if words[0].endswith(".sh") else sys.executable, str(path), *words[1:]]
     done = subprocess.run(command, input=call.given, capture_output=True, env=around, cwd=room)
     return done.returncode, done.stderr.decode(errors="replace")
