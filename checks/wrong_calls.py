@@ -350,8 +350,10 @@ class Calls:
         yield from in_place([*words, "--only", ""], 4, WRONG_ACCOUNTS)
         yield from in_place([*words, "--exponent", ""], 4, WRONG_EXPONENTS)
         yield from in_place([*words, "--denom", ""], 4, ["", "u", "no denom", "uosmo"])
-        for flag, texts in (("--window", WRONG_COUNTS), ("--min-signed", WRONG_PARTS), ("--most-bytes", WRONG_COUNTS)):
+        for flag, texts in (("--window", WRONG_COUNTS), ("--min-signed", WRONG_PARTS), ("--most-bytes", WRONG_COUNTS),
+                            ("--jobs", WRONG_COUNTS)):
             yield from in_place([*words, flag, ""], 4, texts)
+        yield Call([*words, "--jobs", "3"], is_right=True)
 
     def operator_day(self) -> Iterator[Call]:
         words = ["operator_day.py", OPERATOR, str(self.out), str(self.inp)]
