@@ -1,4 +1,4 @@
-use Rattle.std.proofs.Common.{◌≡◌, ◌∙◌, ◌+◌, [], drop, refl, ap, sym, subst, arith, rules, Err, IfErr}
+use Rattle.std.proofs.Common.{◌≡◌, ◌∙◌, ◌+◌, [], drop, ap, sym, subst, arith, rules, Err, IfErr}
 use Rattle.std.{proofs.lemmas.List.drop_all, specs.Map.values_of}
 use Rattle.base_roles.specs.declared.faults.HookFault.TheVariants as hook
 use Rattle.base_roles.specs.{Ground.seen, Flow.each, Staked.validator_at}
