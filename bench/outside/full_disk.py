@@ -1,6 +1,6 @@
 #!/usr/bin/env python3
 """Lets a replay over a store meet a full disk, and shows that nothing is lost:
-bench/outside/full_disk.py [--blocks 100] [--seed 7] [--tries 40]
+bench/outside/full_disk.py [--blocks 100] [--seed 7] [--tries 40] [--every N]
 
 The input is `gen SEED BLOCKS`, and a whole run tells the rows after each line and how large the store's files grow. Then
 the room is made short, in TRIES steps from none to what a whole run takes and a little more, in three ways:
@@ -13,10 +13,11 @@ A run that meets the end of its room ends with 6 and `store fault` (in the secon
 is a front of the whole output; the rows are none, or those after a front of the lines that holds each line of whose text
 a byte was printed; and once there is room, `resume` (`replay` of all where there are no rows) prints the rest and leaves
 the rows of the whole run. A query while the room is short answers, or ends with 6 or 9, and changes no rows.
+With `--every N` each replay and resume commits N blocks at once, and the rows are those of such a front.
 Ends with 0 where all of this held, with 1 at the first where it did not; its files stay."""
 import argparse, collections, os, resource, signal, subprocess
 
-from runs import PROGRAM, Whole, ask, carry_out, folder, generated, rows_of, tell
+from runs import PROGRAM, Whole, add_every, ask, begin_words, carry_out, folder, generated, rows_of, take_every, tell
 
 FAULT = (6, "stakeplay: store fault")
 PAGE = 4096
@@ -73,7 +74,7 @@ def limited(whole, sizes, is_ignored):
     for size in sizes:
         with folder() as room:
             store = room / "store"
-            ended = short(store, ["replay"], b"".join(whole.lines), size, is_ignored)
+            ended = short(store, begin_words(0), b"".join(whole.lines), size, is_ignored)
             kept = judged(whole, store, ended, seen, () if is_ignored else (-signal.SIGXFSZ,))
             ask_query(whole, kept, short(store, ["query", "supply"], b"", size, is_ignored))
             whole.go_on(store, kept)
@@ -91,7 +92,7 @@ def in_mounts(whole, sizes):
             try:
                 store = disk / "store"
                 words = dict(capture_output=True)
-                done = subprocess.run([PROGRAM, str(store), "replay"], input=b"".join(whole.lines), **words)
+                done = subprocess.run([PROGRAM, str(store), *begin_words(0)], input=b"".join(whole.lines), **words)
                 kept = judged(whole, store, (done.returncode, done.stdout, done.stderr.decode().strip()), seen)
                 done = subprocess.run([PROGRAM, str(store), "query", "supply"], input=b"", **words)
                 ask_query(whole, kept, (done.returncode, done.stdout, done.stderr.decode().strip()))
@@ -106,7 +107,9 @@ def main():
     words = argparse.ArgumentParser()
     for name, number in (("blocks", 100), ("seed", 7), ("tries", 40)):
         words.add_argument(f"--{name}", type=int, default=number)
+    add_every(words)
     given = words.parse_args()
+    take_every(given.every)
     whole = Whole(generated(given.seed, given.blocks))
     print(
         f"seed {given.seed}, {given.blocks} blocks; largest file {whole.largest}, all files {whole.all_files} bytes",

@@ -1,6 +1,6 @@
 #!/usr/bin/env python3
 """Kills a replay over a store by signal 9 at random moments, and shows that nothing is lost:
-bench/outside/kills.py [--kills 500] [--blocks 100] [--seed 7] [--only NUMBER] [--keep]
+bench/outside/kills.py [--kills 500] [--blocks 100] [--seed 7] [--only NUMBER] [--keep | --every N]
 
 The input is `gen SEED BLOCKS`. A whole run tells the rows after each line: it is given a line once it has answered the
 one before, and in between the store is read. Each kill then has a store of its own, a moment drawn from the time that a
@@ -9,18 +9,21 @@ After each kill
 
   - what was printed is a front of the whole output;
   - the rows, read by Python's sqlite3 from a copy of the files, are none, or those after a front of the lines that holds
-    each line of whose text a byte was printed;
+    each line of whose text a byte was printed, and at most one line more;
   - `resume` with the lines behind that front (`replay` of all where there are no rows) prints the rest of the whole
     output, and leaves the rows of the whole run. One in three of these is killed too, and judged the same way.
 
 With `--keep` each of these commands is given the word `keep` before it, and the rows of the history are judged with the
-others.
+others. With `--every N` each of these commands is given the words `every N`: the rows are then those after a front of
+which each part is one commit, and at most N lines more are kept than were printed.
 
 A run that ends before its moment counts as no kill. Kill NUMBER draws from `SEED NUMBER`, so `--only` draws the same
 moment again. Ends with 0 where all of this held at each kill, with 1 at the first where it did not; its files stay."""
 import argparse, collections, os, random, select, subprocess, sys, time
 
-from runs import KEPT, PROGRAM, Whole, Wrong, carry_out, folder, generated, ran, rows_of, tell
+from runs import (
+    KEPT, PROGRAM, Whole, Wrong, add_every, begin_words, carry_out, folder, generated, ran, rows_of, take_every, tell,
+)
 
 ALL = 1 << 62
 
@@ -54,7 +57,7 @@ class Kills:
         given = store.parent / "given"
         given.write_bytes(b"".join(self.whole.lines[first:]))
         with given.open("rb") as lines:
-            words = [PROGRAM, str(store), *KEPT, "resume" if first else "replay"]
+            words = [PROGRAM, str(store), *begin_words(first)]
             process = subprocess.Popen(words, stdin=lines, stdout=-1, stderr=-1)
             printed = printed_until(process, moment, most)
         said = process.stderr.read()
@@ -70,11 +73,11 @@ class Kills:
     def note(self, printed, first, kept):
         """Counts a kill by what it left."""
         ends = [len(b"".join(self.whole.texts[first:place])) for place in range(first, len(self.whole.texts) + 1)]
+        ahead = kept - self.whole.begun(printed, first)
         self.seen["resumes killed" if first else "replays killed"] += 1
         self.seen["with no rows"] += kept == 0
-        self.seen["with a line kept of which nothing was printed"] += (
-            kept > first and len(printed) <= ends[kept - first - 1]
-        )
+        self.seen["with a line kept of which nothing was printed"] += ahead > 0
+        self.seen["with more than one such line"] += ahead > 1
         self.seen["within a text"] += len(printed) not in ends
         self.seen["within the report, or behind it"] += len(printed) > ends[-2]
 
@@ -94,7 +97,7 @@ def span_of(whole):
     """How long a whole replay over a store takes."""
     with folder() as room:
         begin = time.monotonic()
-        ran(room / "store", [*KEPT, "replay"], b"".join(whole.lines))
+        ran(room / "store", begin_words(0), b"".join(whole.lines))
         return time.monotonic() - begin
 
 
@@ -102,9 +105,12 @@ def main():
     words = argparse.ArgumentParser()
     for name, number in (("kills", 500), ("blocks", 100), ("seed", 7), ("only", None)):
         words.add_argument(f"--{name}", type=int, default=number)
-    words.add_argument("--keep", action="store_true")
+    ways = words.add_mutually_exclusive_group()
+    ways.add_argument("--keep", action="store_true")
+    add_every(ways)
     given = words.parse_args()
     KEPT.extend(["keep"] * given.keep)
+    take_every(given.every)
     whole = Whole(generated(given.seed, given.blocks))
     span = sorted(span_of(whole) for _ in range(3))[1]
     print(f"seed {given.seed}, {given.blocks} blocks; a replay over a store takes {span:.3f} s", flush=True)

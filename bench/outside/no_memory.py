@@ -1,6 +1,6 @@
 #!/usr/bin/env python3
 """Lets a replay over a store want memory, and shows that nothing is lost:
-bench/outside/no_memory.py [--blocks 100] [--seed 7] [--tries 60]
+bench/outside/no_memory.py [--blocks 100] [--seed 7] [--tries 60] [--every N]
 
 The input is `gen SEED BLOCKS`, and a whole run tells the rows after each line. Then the addresses that a process may have
 (`ulimit -v`) are limited, in TRIES steps from the least with which the program begins at all to what a whole run takes,
@@ -8,11 +8,12 @@ and page by page in the last TRIES pages below that. A run ends with 7 and `no m
 system gives a stack no more room, a signal ends it, which is counted apart. What it printed is a front of the whole
 output; the rows are none, or those after a front of the lines that holds each line of whose text a byte was printed; and
 without the limit, `resume` (`replay` of all where there are no rows) prints the rest and leaves the rows of the whole
-run. One refused allocation at a time is tried by `rt try --fail-alloc 1.. -- - replay` in crates/stakeplay.
+run. With `--every N` each replay and resume commits N blocks at once, and the rows are those of such a front. One
+refused allocation at a time is tried by `rt try --fail-alloc 1.. -- - replay` in crates/stakeplay.
 Ends with 0 where all of this held, with 1 at the first where it did not; its files stay."""
 import argparse, collections, subprocess
 
-from runs import PROGRAM, Whole, ask, carry_out, folder, generated, rows_of, tell
+from runs import PROGRAM, Whole, add_every, ask, begin_words, carry_out, folder, generated, rows_of, take_every, tell
 
 FAULT = (7, "stakeplay: no memory")
 STEP = 4096
@@ -36,13 +37,13 @@ def least(holds, low, high):
 def suffices(lines, size):
     """Whether a replay of these lines into a new store comes to its end."""
     with folder() as room:
-        return limited(room / "store", ["replay"], lines, size)[0] == 0
+        return limited(room / "store", begin_words(0), lines, size)[0] == 0
 
 
 def try_size(whole, size, seen):
     with folder() as room:
         store = room / "store"
-        status, printed, said = limited(store, ["replay"], b"".join(whole.lines), size)
+        status, printed, said = limited(store, begin_words(0), b"".join(whole.lines), size)
         kept = whole.judge(printed, rows_of(store))
         if status == 0:
             ask(printed == whole.output, "it ended with 0, and did not print all")
@@ -57,7 +58,9 @@ def main():
     words = argparse.ArgumentParser()
     for name, number in (("blocks", 100), ("seed", 7), ("tries", 60)):
         words.add_argument(f"--{name}", type=int, default=number)
+    add_every(words)
     given = words.parse_args()
+    take_every(given.every)
     whole = Whole(generated(given.seed, given.blocks))
     all_lines, most = b"".join(whole.lines), (1 << 32) // STEP
     # A program that begins says that its words are none.

@@ -1,17 +1,18 @@
 #!/usr/bin/env python3
 """Refuses a program each of its allocations in turn, and shows that nothing is lost:
-bench/outside/refused.py [--blocks 3] [--seed 7] [--every 1]
+bench/outside/refused.py [--blocks 3] [--seed 7] [--step 1] [--every N]
 
 The input is `gen SEED BLOCKS`, and a whole run tells the rows after each line. A small C library, loaded before the
-program, counts its calls of `malloc` and `realloc` and refuses one of them. For each number of a call (each EVERY-th) a
+program, counts its calls of `malloc` and `realloc` and refuses one of them. For each number of a call (each STEP-th) a
 replay over a store, a resume behind the genesis and a query are run. A run that is refused memory ends with 7 and `no
 memory`; what it printed is a front of the whole output; the rows are as before, or those after a front of the lines that
 holds each line of whose text a byte was printed, and `resume` (`replay` of all where there are no rows) goes on to the end
-of the whole run. A query that is refused memory prints nothing, or a front of its answer, and changes no rows.
+of the whole run. A query that is refused memory prints nothing, or a front of its answer, and changes no rows. With
+`--every N` each replay and resume commits N blocks at once, and the rows are those of such a front.
 Ends with 0 where all of this held, with 1 at the first where it did not; its files stay. Wants a C compiler."""
 import argparse, collections, os, pathlib, shutil, subprocess, tempfile
 
-from runs import PROGRAM, Whole, ask, carry_out, folder, generated, rows_of, tell
+from runs import PROGRAM, Whole, add_every, ask, begin_words, carry_out, folder, generated, rows_of, take_every, tell
 
 FAULT = (7, "stakeplay: no memory")
 SHIM = r"""
@@ -93,14 +94,17 @@ def try_call(whole, refusals, begun, first, words, call, seen):
                 f"call {call}: it ended with 0, and did not print all",
             )
             whole.go_on(store, kept)
-        seen[f"{words[0]}: " + ("no memory" if status == 7 else "came to its end")] += 1
+        command = words[0] if is_query else words[-1]
+        seen[f"{command}: " + ("no memory" if status == 7 else "came to its end")] += 1
 
 
 def main():
     words = argparse.ArgumentParser()
-    for name, number in (("blocks", 3), ("seed", 7), ("every", 1)):
+    for name, number in (("blocks", 3), ("seed", 7), ("step", 1)):
         words.add_argument(f"--{name}", type=int, default=number)
+    add_every(words)
     given = words.parse_args()
+    take_every(given.every)
     whole, seen = Whole(generated(given.seed, given.blocks)), collections.Counter()
     with tempfile.TemporaryDirectory() as name:
         work = pathlib.Path(name)
@@ -110,8 +114,8 @@ def main():
         )
         account = "40" + "00" * 19
         for begun, first, run in (
-            (work / "none", 0, ["replay"]),
-            (work / "genesis", 1, ["resume"]),
+            (work / "none", 0, begin_words(0)),
+            (work / "genesis", 1, begin_words(1)),
             (work / "genesis", 1, ["query", "account", account]),
         ):
             (work / "count").mkdir()
@@ -119,7 +123,7 @@ def main():
             count = refusals.calls(copied(begun, work / "count"), run, lines)
             shutil.rmtree(work / "count")
             print(f"{' '.join(run)}: {count} allocations", flush=True)
-            for call in range(1, count + 1, given.every):
+            for call in range(1, count + 1, given.step):
                 try_call(whole, refusals, begun, first, run, call, seen)
     tell(seen)
 

@@ -7,8 +7,12 @@ import contextlib, json, os, pathlib, select, shutil, sqlite3, subprocess, sys, 
 TOP = pathlib.Path(__file__).resolve().parents[2]
 PROGRAM = os.environ.get("STAKEPLAY", str(TOP / "crates/stakeplay/out/stakeplay"))
 HALF_MADE = 65536
+# where so much text waits, what waits is committed
+MEBIBYTE = 1 << 20
 # the word before each command over a store, where what blocks replace is to be kept
 KEPT = []
+# `every N` before each replay and resume that is ended from outside, where N blocks are to be one commit
+EVERY = []
 
 
 class Wrong(Exception):
@@ -18,6 +22,25 @@ class Wrong(Exception):
 def ask(holds, text):
     if not holds:
         raise Wrong(text)
+
+
+def add_every(words):
+    """The option by which each replay and resume that is ended from outside commits at each Nth block."""
+    words.add_argument("--every", type=int)
+
+
+def take_every(number):
+    EVERY[:] = [] if number is None else ["every", str(number)]
+
+
+def most_ahead():
+    """How many lines are one commit."""
+    return int(EVERY[1]) if EVERY else 1
+
+
+def begin_words(first):
+    """The words of a run over a store that holds so many lines."""
+    return [*KEPT, *EVERY, "resume" if first else "replay"]
 
 
 @contextlib.contextmanager
@@ -112,18 +135,37 @@ class Whole:
         if not self.resumes:
             print("this program cannot resume: what is kept is judged, and not gone on with", flush=True)
 
-    def judge(self, printed, rows, first=0):
-        """Of how many lines the rows are, after a run that began behind the first of them; what it printed has to agree."""
-        kept = self.place.get(tuple(rows)) if rows else 0
-        ask(kept is not None, "the rows are those of no front of the lines")
-        ask(kept >= first, f"the rows are those of {kept} lines, and of {first} before")
-        whole = b"".join(self.texts[first:])
-        ask(whole.startswith(printed), "what was printed is no front of the whole output")
+    def commits(self, first):
+        """Behind how many lines a run that begins behind the first of them commits."""
+        places, waiting, held = {first, len(self.lines)}, 0, 0
+        for place in range(first, len(self.lines)):
+            waiting, held = waiting + 1, held + len(self.texts[place])
+            if place == 0 or waiting == most_ahead() or held >= MEBIBYTE:
+                places.add(place + 1)
+                waiting = held = 0
+        return places
+
+    def begun(self, printed, first):
+        """Of how many lines a byte was printed, by a run that began behind the first of them."""
         begun, length = first, 0
         for text in self.texts[first:-1]:
             begun += length < len(printed)
             length += len(text)
+        return begun
+
+    def judge(self, printed, rows, first=0, is_all=True):
+        """Of how many lines the rows are, after a run that began behind the first of them. What it printed, all of it or
+        what a reader took of it, has to agree."""
+        kept = self.place.get(tuple(rows)) if rows else 0
+        ask(kept is not None, "the rows are those of no front of the lines")
+        ask(kept >= first, f"the rows are those of {kept} lines, and of {first} before")
+        ask(kept in self.commits(first), f"the rows are those of {kept} lines, where none are committed")
+        whole = b"".join(self.texts[first:])
+        ask(whole.startswith(printed), "what was printed is no front of the whole output")
+        begun = self.begun(printed, first)
         ask(begun <= kept, f"the texts of {begun} lines were printed or begun, and the rows are those of {kept}")
+        ahead = kept - begun
+        ask(not is_all or ahead <= most_ahead(), f"{ahead} lines are kept of which nothing was printed")
         return kept
 
     def go_on(self, store, kept):
@@ -131,7 +173,7 @@ class Whole:
         if kept and not self.resumes:
             ask(ran(store, ["replay"], self.lines[0])[0] == 9, "a replay does not find the rows that are kept")
             return
-        status, printed, said = ran(store, [*KEPT, "resume" if kept else "replay"], b"".join(self.lines[kept:]))
+        status, printed, said = ran(store, begin_words(kept), b"".join(self.lines[kept:]))
         ask((status, said) == (0, ""), f"behind {kept} lines it ended with {status}, {said}")
         ask(printed == b"".join(self.texts[kept:]), f"behind {kept} lines it printed something else than the rest")
         ask(rows_of(store) == self.rows[-1], f"behind {kept} lines it left other rows than the whole run")

@@ -12,7 +12,9 @@ use Rattle.base_roles.specs.declared.refusal.Refusal.TheVariants.{InsufficientFu
 use Rattle.base_roles.specs.Holdings.{balance_of, is_short, IsBacked}
 use Rattle.base_roles.specs.Staked.{is_bonded, is_unbonded}
 use Rattle.base_roles.specs.Flow.{◌>>=◌, ◌>>◌, stop_if, stopping}
-use Rattle.base_roles.specs.World.{View, Hook, starting, modified, Told, World, call, sent, burnt, over_view}
+use Rattle.base_roles.specs.World.{View, Told, World, call, sent, burnt, over_view}
+use Rattle.base_roles.specs.declared.calls.Hook.{Hook}
+use Rattle.base_roles.specs.declared.calls.Hook.TheVariants.{Starting as starting, Modified as modified}
 
 -- a hook, then coins from a user to the not-bonded account, then a hook
 abbrev pub sent_between_hooks : {H : Type 0} → (H → Hook → View → Told H) → Validator → List ℕ → Money → ℕ → World ⊤ H → Result (⊤ × World ⊤ H) Refusal

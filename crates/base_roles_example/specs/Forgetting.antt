@@ -6,7 +6,9 @@ use Rattle.base_roles.specs.Ground.{IsInOrder}
 use Rattle.base_roles.specs.Hooks.{Tells, Keeps, Lawful}
 use Rattle.base_roles.specs.Log.{Log}
 use Rattle.base_roles.specs.NoHooks.{Keeps-same}
-use Rattle.base_roles.specs.World.{View, Hook, created, removed, bonded, starting, modifying, modified, slashing, gives, noted}
+use Rattle.base_roles.specs.World.{View, gives, noted}
+use Rattle.base_roles.specs.declared.calls.Hook.{Hook}
+use Rattle.base_roles.specs.declared.calls.Hook.TheVariants.{Created as created, Removed as removed, Bonded as bonded, Starting as starting, Modifying as modifying, Modified as modified, Slashing as slashing}
 
 -- the latest height, and 0 where there is none
 abbrev pub latest : List ℕ → ℕ

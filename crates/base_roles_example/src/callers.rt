@@ -10,7 +10,7 @@ ghost use Rattle.base_roles.specs.Hooks.{Stands, MayCall};
 ghost use Rattle.base_roles.specs.Log.{Log};
 ghost use Rattle.base_roles.specs.Staked.{validator_by_cons, lists_of, bonded_tokens, other_tokens};
 ghost use Rattle.base_roles.specs.StakeChanges.{HoldsStake, HasShares};
-ghost use Rattle.base_roles.specs.World.{starting};
+ghost use Rattle.base_roles.specs.declared.calls.Hook.TheVariants.{Starting as starting};
 ghost use Rattle.base_roles_example.specs.Caller.{sent_between_hooks, unbonded_twice, can_be_jailed, can_be_slashed, can_be_banned, account_of, IsOwnBurnt, IsBurntIfKnown};
 
 use base_coins::{Coin, Coins};

@@ -4,7 +4,7 @@ use Rattle.std.proofs.lemmas.List.Elements.{All-from_recursion, recursion_from_A
 use Rattle.base_roles.specs.declared.entities.{RedelegationEntry.RedelegationEntry, UnbondingEntry.UnbondingEntry}
 use Rattle.base_roles.specs.{declared.{entities.Validator.Validator, messages.Vote.Vote}, Ground.CanBeUndone}
 use Rattle.base_roles.specs.Staked.{bonded_tokens, other_tokens, validator_at, validator_by_cons}
-use Rattle.base_roles.specs.{StakeChanges.HoldsStake, World.{View, Hook}}
+use Rattle.base_roles.specs.{StakeChanges.HoldsStake, World.View, declared.calls.Hook.Hook}
 use Rattle.rule_modules.{proofs.SoundLemmas.{IsSoundAt, to_points}, specs.Chain.{State, Stakes, shared_in, window_in}}
 use Rattle.rule_modules.specs.{StepLaws.{CountsBelow, IsPower}, Owed.entry_balances, Purses.Purses, Sound.IsSound}
 use Rattle.law_soundness.proofs.{Allocating.found_by_cons, Lists.weaker}

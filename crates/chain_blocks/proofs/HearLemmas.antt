@@ -5,7 +5,7 @@ use Rattle.base_decimals.specs.declared.over.Over.{Over}
 use Rattle.base_messages.specs.declared.block.Block.{Block}
 use Rattle.base_roles.specs.declared.{faults.HookFault.HookFault, messages.{Evidence.Evidence, Vote.Vote}}
 use Rattle.base_roles.specs.{Answers.{AsRuled, ExceedsAs, WantsMemory}, Flow.{◌>>=◌, each}, Staked.Staked}
-use Rattle.base_roles.specs.World.{View, Hook, World}
+use Rattle.base_roles.specs.{World.{View, World}, declared.calls.Hook.Hook}
 use Rattle.rule_machine.specs.GenesisState.{without_facts}
 use Rattle.rule_machine.specs.Listening.{Hearing, Overheard, beginning_heard, beside_window, ending_heard, evidence_heard, heard_in, hearing, maturing_heard, overheard_told, part_heard, set_heard, shared_told, silently, txs_heard, unheard, vote_heard, with_window}
 use Rattle.rule_modules.specs.{Answers.Leaves, BondedSet.{set_updated, validators_matured}}

@@ -6,8 +6,8 @@ use Rattle.base_roles.specs.{declared.faults.HookFault.HookFault, Flow.{◌>>=�
 use Rattle.rule_modules.specs.Chain.{State}
 use Rattle.chain_modules.specs.{declared.modules.Modules.Modules, Kept.{StandsWhole, AreSteady, kept_of}, Marks.GoOn}
 use Rattle.chain_modules.proofs.MarkLemmas.{then_on}
-use Rattle.chain_blocks.specs.Answers.{Leads, TakesStep}
-use Rattle.chain_blocks.proofs.{EndLemmas.steady_on, LeadLemmas.{stop_leads, then_leads}}
+use Rattle.chain_blocks.{specs.Answers.{Leads, TakesStep}, proofs.EndLemmas.steady_on}
+use Rattle.chain_blocks.proofs.LeadLemmas.{stop_leads, then_leads}
 
 pub takes : {E : Type 0} (step : State → Result State Over) (old new : Modules E) (answer : Result ⊤ HookFault) → AreSteady old → GoOn old new → ((p : State) → StandsWhole (kept_of old) p → Leads StandsWhole (step p) (kept_of new) answer)
     → TakesStep step old new answer

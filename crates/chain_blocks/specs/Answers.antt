@@ -7,7 +7,8 @@ use Rattle.base_roles.specs.declared.faults.RecordFault.{RecordFault}
 use Rattle.base_roles.specs.declared.faults.RecordFault.TheVariants as kept
 use Rattle.base_roles.specs.Answers.{AsRuled, WantsMemory, ExceedsAs}
 use Rattle.base_roles.specs.Flow.{◌>>=◌, stopping}
-use Rattle.base_roles.specs.World.{View, Hook}
+use Rattle.base_roles.specs.World.{View}
+use Rattle.base_roles.specs.declared.calls.Hook.{Hook}
 use Rattle.base_messages.specs.declared.block.Block.{Block}
 use Rattle.base_messages.specs.declared.faults.BlockFault.{BlockFault}
 use Rattle.base_messages.specs.declared.faults.BlockFault.TheVariants as block

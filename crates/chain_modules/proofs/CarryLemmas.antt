@@ -13,9 +13,10 @@ use Rattle.base_roles.specs.declared.refusal.Refusal.TheVariants.{CancelTooMuch,
 use Rattle.base_roles.specs.{Log.{Log, LogEntry}, Orders.same_addr}
 use Rattle.base_roles.specs.Staked.{Staked, delegation, is_bonded, is_unbonded, put_validator, validator_at, validator_by_cons}
 use Rattle.base_roles.specs.Flow.{◌>>=◌, ◌>>◌, each, or_stop, stop_if, stopping}
-use Rattle.base_roles.specs.World.{View, Hook, modified, modifying, Told, gives, exceeds, World, hooked, call, over_mine, over_view, sent, logged}
+use Rattle.base_roles.specs.World.{View, Told, gives, exceeds, World, hooked, call, over_mine, over_view, sent, logged}
+use Rattle.base_roles.specs.declared.calls.Hook.{Hook, TheVariants.{Modified as modified, Modifying as modifying}}
 use Rattle.base_roles.specs.Log as log
-use Rattle.base_roles.specs.World as hook
+use Rattle.base_roles.specs.declared.calls.Hook.TheVariants as hook
 use Rattle.rule_modules.specs.Amounts.{bond_coins}
 use Rattle.rule_modules.specs.BondedSet.{joined_set, left_set, joining_of, leaving_of, matured, set_updated, validators_matured}
 use Rattle.rule_modules.specs.Delegating.{Origin, delegated, delegated_by, hook_before, is_wrong, paid_in, pool, shares_given, wallet}
@@ -89,7 +90,7 @@ module _ {H G : Type 0} (f : H → G) (k : Log) where
     -- ---- validators and delegations
 
     pub stored_carried : (v : Validator) (w : World Staked H) → stored tells v (carried w) ≡ carried_ok carried (stored told v w)
-    stored_carried v w = call_carried (hook.created v) (over_mine (put_validator v) w)
+    stored_carried v w = call_carried (hook.Created v) (over_mine (put_validator v) w)
 
     pub delegated_carried : (v : Validator) (who : List ℕ) (amount : ℕ) (origin : Origin) (w : World Staked H) → delegated tells v who amount origin (carried w) ≡ carried_ok carried_by (delegated told v who amount origin w)
     delegated_carried v who amount origin w =
@@ -119,7 +120,7 @@ module _ {H G : Type 0} (f : H → G) (k : Log) where
         (same_next carried_by (stop_if (is_some (validator_at w.mine m.validator)) ValidatorExists) _ _
         (same_next carried_by (stop_if (is_some (validator_by_cons w.mine m.cons)) ConsKeyExists) _ _
         (same_next carried_by (stop_if (is_wrong m.amount w.view) WrongDenom) _ _
-        (then_carried carried carried_by (stopping Overflow (stored told v w)) (stopping Overflow (stored tells v (carried w))) _ _ (called (hook.created v) (over_mine (put_validator v) w)) (λ w1.
+        (then_carried carried carried_by (stopping Overflow (stored told v w)) (stopping Overflow (stored tells v (carried w))) _ _ (called (hook.Created v) (over_mine (put_validator v) w)) (λ w1.
         then_carried carried_by carried_by (delegated told v m.validator m.amount.amount wallet w1) (delegated tells v m.validator m.amount.amount wallet (carried w1)) _ _ (delegated_carried v m.validator m.amount.amount wallet w1) (λ p. refl))))))))))
 
     -- ---- unbonding
@@ -130,7 +131,7 @@ module _ {H G : Type 0} (f : H → G) (k : Log) where
         by : (b : Bool) → (if b then validator_removed tells v (carried w) else Ok (carried w)) ≡ carried_ok carried (if b then validator_removed told v w else Ok w)
         by true =
             let w0 : World Staked H = over_mine (without_validator v.operator) w in
-            then_carried carried carried (call told (hook.removed v) w0) (call tells (hook.removed v) (carried w0)) _ _ (call_carried (hook.removed v) w0) (λ w1. refl)
+            then_carried carried carried (call told (hook.Removed v) w0) (call tells (hook.Removed v) (carried w0)) _ _ (call_carried (hook.Removed v) w0) (λ w1. refl)
         by false = refl
 
     left_carried : (v : Validator) (who : List ℕ) (left : ℕ) (w : World Staked H) → left_standing tells v who left (carried w) ≡ carried_ok carried (left_standing told v who left w)
@@ -211,7 +212,7 @@ module _ {H G : Type 0} (f : H → G) (k : Log) where
         let joining : List Validator = joining_of p.power_reduction p.max_validators vs in
         let leaving : List Validator = leaving_of p.power_reduction p.max_validators vs in
         then_carried carried carried (each (joined_set told) joining w) (each (joined_set tells) joining (carried w)) _ _
-        (each_carried (joined_set told) (joined_set tells) (λ v x. call_carried (hook.bonded (record v { status = Bonded })) (changed v Bonded x)) joining w) (λ w1.
+        (each_carried (joined_set told) (joined_set tells) (λ v x. call_carried (hook.Bonded (record v { status = Bonded })) (changed v Bonded x)) joining w) (λ w1.
         then_carried carried carried (each (left_set told) leaving w1) (each (left_set tells) leaving (carried w1)) _ _
         (each_carried (left_set told) (left_set tells) (λ v x. refl) leaving w1) (λ w2. refl))
 

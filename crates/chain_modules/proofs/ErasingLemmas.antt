@@ -9,7 +9,7 @@ use Rattle.base_messages.specs.declared.message.Msg.TheVariants as msg
 use Rattle.base_roles.specs.declared.messages.{CreateValidator.CreateValidator, Evidence.Evidence, Vote.Vote}
 use Rattle.base_roles.specs.{declared.refusal.Refusal.Refusal, Flow.{◌>>=◌, ◌>>◌, each, stopping}, Log.Log}
 use Rattle.base_roles.specs.{Pair.{and_then, given_with}, Staked.{delegation, validator_at}}
-use Rattle.base_roles.specs.World.{View, Hook, Told, gives, exceeds}
+use Rattle.base_roles.specs.{World.{View, Told, gives, exceeds}, declared.calls.Hook.Hook}
 use Rattle.rule_modules.specs.BondedSet.{set_updated, validators_matured}
 use Rattle.rule_modules.specs.Chain.{Hooks, State, allocation_step, begin_block, chain_told, end_block, evidence_step, maturing_step, redelegations_step, set_step, staked_in, unbondings_step, vote_step}
 use Rattle.rule_modules.specs.{Delegating.delegated_by, Distribution.{Shared, distribution_told}}

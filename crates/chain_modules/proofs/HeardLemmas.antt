@@ -5,7 +5,7 @@ use Rattle.base_decimals.specs.declared.over.Over.{Over}
 use Rattle.base_roles.specs.declared.{faults.{HookFault.HookFault, MessageFault.MessageFault}, refusal.Refusal.Refusal}
 use Rattle.base_roles.specs.{Answers.{AnswersAs, AsRuled}, declared.items.Item.Item, Extra.Listens, Flow.{◌>>=◌}}
 use Rattle.base_roles.specs.{Hooks.{Tells, Stand, Stands}, Log.Log, Owing.Lists, Pair.{and_then, given_with}}
-use Rattle.base_roles.specs.{Staked.Staked, World.{View, Hook, Told, gives, exceeds, World}}
+use Rattle.base_roles.specs.{Staked.Staked, World.{View, Told, gives, exceeds, World}, declared.calls.Hook.Hook}
 use Rattle.rule_modules.specs.{Answers.Leaves, Chain.{State, Stakes, staked_in, with_staked}}
 use Rattle.rule_modules.specs.{Distribution.{Shared, distribution_told}, Redelegations.RedelegationLists}
 use Rattle.rule_modules.specs.{Unbondings.UnbondingLists, Window.{Window, window_told}}

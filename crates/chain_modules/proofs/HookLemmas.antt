@@ -4,8 +4,8 @@ use Rattle.std.proofs.Common.{◌≡◌, ℕ, [], ◌∷◌, ◌++◌, Result, O
 use Rattle.std.specs.Prelude.{⊤}
 use Rattle.base_roles.specs.declared.{faults.{HookFault.HookFault, MessageFault.MessageFault}, refusal.Refusal.Refusal}
 use Rattle.base_roles.specs.{Answers.{AnswersAs, AsRuled, StopsForMemory, RefusesAs, WantsMemory, ExceedsAs}, Log.Log}
-use Rattle.base_roles.specs.{Pair.{and_then, given_with}, Staked.Staked}
-use Rattle.base_roles.specs.World.{View, Hook, Told, gives, exceeds, World}
+use Rattle.base_roles.specs.{Pair.{and_then, given_with}, Staked.Staked, World.{View, Told, gives, exceeds, World}}
+use Rattle.base_roles.specs.declared.calls.Hook.{Hook}
 use Rattle.base_decimals.specs.declared.over.Over.{Over}
 use Rattle.rule_modules.specs.{Answers.Leaves, Chain.{Hooks, State, chain_told, staked_in}}
 use Rattle.rule_modules.specs.{Distribution.{Shared, distribution_told}, Window.{Window, window_told}}

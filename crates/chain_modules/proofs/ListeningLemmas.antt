@@ -3,7 +3,7 @@ use Rattle.std.proofs.Common.{◌≡◌, ◌∙◌, ℕ, ◌+◌, ◌≤◌, Lis
 use Rattle.std.specs.Prelude.{⊤}
 use Rattle.base_roles.specs.{declared.{faults.HookFault.HookFault, items.Item.Item}, Answers.Answers, Extra.Listens}
 use Rattle.base_roles.specs.{Hooks.{Tells, MayCall, Lawful}, Listeners.listener_tells, Log.Log}
-use Rattle.base_roles.specs.World.{View, Hook, Told, gives, exceeds}
+use Rattle.base_roles.specs.{World.{View, Told, gives, exceeds}, declared.calls.Hook.Hook}
 use Rattle.base_roles.proofs.ListenLemmas.{quiet_may}
 
 -- A listener that is called, of which the laws say what it heard.
@@ -31,7 +31,7 @@ module _ {P : Type 0} (hears : P → Hook → View → P) {S H K M : Type 0} {ho
       by (Err fault) h = tt
 
   -- a call of it touches nothing
-  pub listener_steps : (s : S) (before steps : ℕ) → ((k : H) → holds s k → steps ≤ before + tells.most_steps k) → steps ≤ before
+  pub listener_steps : (s : S) (before steps : ℕ) → ((k : H) → holds s k → steps ≤ before + tells.most_steps k) → steps ≤ before + 0
   listener_steps s before steps cost = let k = listens.some s in let none = lawful.quiet_steps k.0 (listens.quiet k.0) in let two = cost k.0 k.1 in omega (arith, none, two)
 
   -- it may be called where hooks may be that hold what it heard

@@ -5,7 +5,8 @@ use Rattle.base_roles.specs.declared.entities.{RedelegationEntry.RedelegationEnt
 use Rattle.base_roles.specs.{declared.{messages.{Evidence.Evidence, Vote.Vote}, params.Ctx.Ctx}, Log.Log}
 use Rattle.base_roles.specs.Orders.{same_addr}
 use Rattle.base_roles.specs.Staked.{Staked, delegation, is_unbonded, validator_at, validator_by_cons}
-use Rattle.base_roles.specs.World.{View, Hook, slashing, Told, World, call, noted, over_view}
+use Rattle.base_roles.specs.{World.{View, Told, World, call, noted, over_view}, declared.calls.Hook.Hook}
+use Rattle.base_roles.specs.declared.calls.Hook.TheVariants.{Slashing as slashing}
 use Rattle.base_roles.specs.declared.facts.Fact.TheVariants as fact
 use Rattle.base_roles.specs.Log as log
 use Rattle.rule_modules.specs.Chain.{Stakes}

@@ -4,7 +4,8 @@ use Rattle.base_decimals.specs.declared.over.Over.{Over}
 use Rattle.base_messages.specs.declared.block.Block.{Block}
 use Rattle.base_messages.specs.declared.faults.BlockFault.{BlockFault}
 use Rattle.base_messages.specs.declared.faults.BlockFault.TheVariants.{RatioLimit}
-use Rattle.base_roles.specs.World.{View, Hook}
+use Rattle.base_roles.specs.World.{View}
+use Rattle.base_roles.specs.declared.calls.Hook.{Hook}
 use Rattle.rule_machine.specs.Listening.{Hearing, unheard, block_heard}
 use Rattle.rule_machine.specs.Machine.{Step, block_checked, step}
 

@@ -3,7 +3,8 @@ use Rattle.std.specs.Prelude.{◌≡◌, Result, Ok, Err}
 use Rattle.base_roles.specs.Hooks.{Tells}
 use Rattle.base_roles.specs.Listeners.{listener_tells}
 use Rattle.base_roles.specs.Pair.{pair_tells}
-use Rattle.base_roles.specs.World.{View, Hook}
+use Rattle.base_roles.specs.World.{View}
+use Rattle.base_roles.specs.declared.calls.Hook.{Hook}
 use Rattle.rule_modules.specs.Chain.{State}
 use Rattle.rule_modules.specs.Distribution.{Shared}
 use Rattle.rule_machine.specs.Listening.{Hearing, unheard, heard_in}

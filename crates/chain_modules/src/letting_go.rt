@@ -1,8 +1,8 @@
 //! Letting go of modules, one after the other. What a module holds in its tables is let go of record by record, so each
 //! does it in a function of its own.
 
-use crate::modules::{Hooks, Modules, Stakes};
 use crate::listening::Listening;
+use crate::modules::{Hooks, Modules, Stakes};
 use base_roles::{Ground, HookPair};
 use mod_bank::BankBalances;
 use mod_distribution::Distr;

@@ -121,10 +121,13 @@ fn mark_beside<E: Extra, L: Ledger>(
     ensures hooks_settled { hooks_settled hooks.new ≡ hooks_settled hooks.old }
     ensures power { stakes.new.staking.power_reduction ≡ stakes.old.staking.power_reduction }
     ensures listener_opened { OnOk result (E.Records.marks hooks.new.first.second.listener
-        ≡ E.Records.marks hooks.old.first.second.listener ++ E.kept hooks.old.first.second.listener ∷ []) }
+        ≡ E.Records.marks hooks.old.first.second.listener
+        ++ E.kept hooks.old.first.second.listener ∷ []) }
     ensures listener_err { OnErr result
-        (E.Records.marks hooks.new.first.second.listener ≡ E.Records.marks hooks.old.first.second.listener) }
-    ensures listener_same { E.kept hooks.new.first.second.listener ≡ E.kept hooks.old.first.second.listener }
+        (E.Records.marks hooks.new.first.second.listener
+        ≡ E.Records.marks hooks.old.first.second.listener) }
+    ensures listener_same { E.kept hooks.new.first.second.listener
+        ≡ E.kept hooks.old.first.second.listener }
 {
     mark_stakes(alloc, stakes, steps)?;
     match mark_hooks(alloc, hooks, steps) {
@@ -209,10 +212,13 @@ fn mark_hooks<E: Extra, L: Ledger>(
     ensures same { hooks_kept hooks.new ≡ hooks_kept hooks.old }
     ensures settled { hooks_settled hooks.new ≡ hooks_settled hooks.old }
     ensures listener_opened { OnOk result (E.Records.marks hooks.new.first.second.listener
-        ≡ E.Records.marks hooks.old.first.second.listener ++ E.kept hooks.old.first.second.listener ∷ []) }
+        ≡ E.Records.marks hooks.old.first.second.listener
+        ++ E.kept hooks.old.first.second.listener ∷ []) }
     ensures listener_err { OnErr result
-        (E.Records.marks hooks.new.first.second.listener ≡ E.Records.marks hooks.old.first.second.listener) }
-    ensures listener_same { E.kept hooks.new.first.second.listener ≡ E.kept hooks.old.first.second.listener }
+        (E.Records.marks hooks.new.first.second.listener
+        ≡ E.Records.marks hooks.old.first.second.listener) }
+    ensures listener_same { E.kept hooks.new.first.second.listener
+        ≡ E.kept hooks.old.first.second.listener }
 {
     mark_heard(alloc, &mut hooks.first, steps)?;
     match hooks.second.mark(alloc, steps) {

@@ -3,7 +3,7 @@ use Rattle.std.proofs.Common.{◌≡◌, ◌∙◌, ℕ, ◌^◌, ◌<◌, ◌�
 use Rattle.base_roles.specs.declared.{entities.Validator.Validator, refusal.Refusal.Refusal}
 use Rattle.base_roles.specs.{declared.refusal.Refusal.TheVariants.{NoValidator, NoDelegation}, Hooks.MayCall}
 use Rattle.base_roles.specs.{Staked.{Staked, delegation, lists_of, validator_at}, Flow.{◌>>=◌, or_stop}}
-use Rattle.base_roles.specs.World.{modifying}
+use Rattle.base_roles.specs.declared.calls.Hook.TheVariants.{Modifying as modifying}
 use Rattle.rule_modules.{proofs.SoundLemmas.to_points, specs.{Chain.State, Sound.IsSound}}
 use Rattle.law_soundness.proofs.Within.{shares_some, shares_within}
 use Rattle.mod_distribution.specs.{Stands.KeepsShared, Tells.distribution_tells}

@@ -6,7 +6,8 @@ use Rattle.base_messages.specs.declared.message.Msg.{Msg}
 use Rattle.base_roles.specs.declared.{entities.Validator.Validator, faults.MessageFault.MessageFault}
 use Rattle.base_roles.specs.declared.{messages.CreateValidator.CreateValidator, refusal.Refusal.Refusal}
 use Rattle.base_roles.specs.{Answers.{AnswersAs, RefusesAs, StopsForMemory}, Flow.{◌>>=◌}}
-use Rattle.base_roles.specs.{Staked.{delegation, validator_at}, World.{View, Hook, modified}}
+use Rattle.base_roles.specs.{Staked.{delegation, validator_at}, World.View, declared.calls.Hook.Hook}
+use Rattle.base_roles.specs.declared.calls.Hook.TheVariants.{Modified as modified}
 use Rattle.rule_machine.specs.Listening.{Hearing, Overheard, cancellation_heard, creation_heard, delegation_heard, effect_heard, heard_in, hearing, messages_heard, overheard_told, redelegation_heard, restart_heard, reward_heard, silently, undelegation_heard, unheard}
 use Rattle.rule_modules.specs.{Chain.{State, Stakes}, Delegating.delegated_by, Distribution.Shared}
 use Rattle.rule_modules.specs.Effects.{Effect, begin_redelegate, cancel_unbonding, create_validator, delegate, undelegate, withdraw_reward}

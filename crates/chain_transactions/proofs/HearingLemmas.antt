@@ -1,7 +1,7 @@
 -- What a listener hears of transactions.
 use Rattle.std.proofs.Common.{◌≡◌, ◌∙◌, ℕ, ◌+◌, ◌<◌, List, [], drop, length, get_or, Some, Result, Ok, Err, sym, ap, subst}
 use Rattle.base_messages.specs.declared.{message.Msg.Msg, block.Tx.Tx}
-use Rattle.base_roles.specs.{declared.refusal.Refusal.Refusal, Flow.{◌>>=◌}, World.{View, Hook}}
+use Rattle.base_roles.specs.{declared.{refusal.Refusal.Refusal, calls.Hook.Hook}, Flow.{◌>>=◌}, World.View}
 use Rattle.rule_machine.specs.GenesisState.{without_facts}
 use Rattle.rule_machine.specs.Listening.{Hearing, heard_in, hearing, messages_heard, paid_heard, part_heard, stands_heard, tx_heard, txs_heard, unheard}
 use Rattle.rule_modules.specs.Chain.{State}

@@ -2,7 +2,7 @@
 
 ghost use Rattle.std.specs.Prelude.{◌≡◌, ◌^◌, ◌<◌, ◌≤◌, Ok, OnOk, IfErr};
 ghost use Rattle.base_roles.specs.Ground.{IsInOrder};
-ghost use Rattle.base_roles.specs.World.{modified};
+ghost use Rattle.base_roles.specs.declared.calls.Hook.TheVariants.{Modified as modified};
 ghost use Rattle.rule_modules.specs.Effects.{withdraw_reward, withdraw_commission, set_withdraw_address, fund_community_pool, community_pool_spend};
 ghost use Rattle.rule_machine.specs.Listening.{Hearing, reward_heard};
 ghost use Rattle.chain_modules.specs.Heard.{Hears, HearsAfter};

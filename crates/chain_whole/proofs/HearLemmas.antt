@@ -7,8 +7,8 @@ use Rattle.base_messages.specs.declared.genesis.GenesisValidator.{GenesisValidat
 use Rattle.base_roles.specs.declared.{entities.Validator.Validator, faults.HookFault.HookFault}
 use Rattle.base_roles.specs.declared.{faults.MessageFault.MessageFault, refusal.Refusal.Refusal}
 use Rattle.base_roles.specs.{declared.refusal.Refusal.TheVariants.{NoValidator, Overflow}, Answers.AnswersAs}
-use Rattle.base_roles.specs.{Flow.{◌>>=◌, each, or_stop, stopping}, Staked.{Staked, validator_at}}
-use Rattle.base_roles.specs.World.{View, Hook, World}
+use Rattle.base_roles.specs.{Flow.{◌>>=◌, each, or_stop, stopping}, Staked.{Staked, validator_at}, World.{View, World}}
+use Rattle.base_roles.specs.declared.calls.Hook.{Hook}
 use Rattle.rule_machine.specs.GenesisConditions.{creation_of}
 use Rattle.rule_machine.specs.GenesisState.{delegation_added, empty_over, ground_at_start, stake_added, validator_added, without_facts}
 use Rattle.rule_machine.specs.Listening.{Hearing, Overheard, genesis_heard, heard_in, hearing, overheard_told, set_heard, unheard}

@@ -5,7 +5,8 @@ use Rattle.base_roles.specs.declared.refusal.Refusal.TheVariants.{Overflow}
 use Rattle.base_types.specs.declared.status.BondStatus.TheVariants.{Unbonded}
 use Rattle.base_roles.specs.Staked.{Staked, delegation, validator_at, validator_by_cons}
 use Rattle.base_roles.specs.Flow.{◌>>=◌, each, stopping}
-use Rattle.base_roles.specs.World.{View, Hook, World}
+use Rattle.base_roles.specs.World.{View, World}
+use Rattle.base_roles.specs.declared.calls.Hook.{Hook}
 use Rattle.base_messages.specs.declared.genesis.Genesis.{Genesis}
 use Rattle.base_messages.specs.declared.genesis.GenesisDelegation.{GenesisDelegation}
 use Rattle.base_messages.specs.declared.genesis.GenesisValidator.{GenesisValidator}

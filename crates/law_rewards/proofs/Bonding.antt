@@ -5,7 +5,8 @@ use Rattle.base_decimals.specs.declared.over.Over.{Over}
 use Rattle.base_types.specs.{declared.status.BondStatus.TheVariants.{Bonded, Unbonding}, Orders.addr_cmp}
 use Rattle.base_roles.specs.{declared.entities.Validator.Validator, Orders.same_addr}
 use Rattle.base_roles.specs.{Staked.{Staked, validator_at, put_validator, is_bonded}, Flow.{◌>>=◌, each}}
-use Rattle.base_roles.specs.World.{View, World, bonded, call, over_view}
+use Rattle.base_roles.specs.World.{View, World, call, over_view}
+use Rattle.base_roles.specs.declared.calls.Hook.TheVariants.{Bonded as bonded}
 use Rattle.rule_modules.proofs.{EntryLemmas.to_all, OperatorLemmas.ordered_all, OrderLemmas.addr_total}
 use Rattle.rule_modules.specs.BondedSet.{joining_of, leaving_of, tokens_of, difference_moved, is_in_bonded_set, joined_set, left_set, set_updated}
 use Rattle.rule_modules.specs.{Chain.{Hooks, State, chain_told, staked_in, with_staked, set_step}, Sound.IsSound}

@@ -6,10 +6,11 @@ use Rattle.base_shares.specs.Shares.{amount_out}
 use Rattle.base_roles.specs.declared.{entities.Validator.Validator, refusal.Refusal.{Refusal, TheVariants.Overflow}}
 use Rattle.base_roles.specs.{Log.{Log, LogEntry}, Staked.{Staked, delegation, put_validator, is_unbonded}}
 use Rattle.base_roles.specs.Flow.{◌>>=◌, stopping}
-use Rattle.base_roles.specs.World.{View, Hook, Told, gives, World, call, modifying, modified, noted, over_view, over_mine, logged}
+use Rattle.base_roles.specs.World.{View, Told, gives, World, call, noted, over_view, over_mine, logged}
+use Rattle.base_roles.specs.declared.calls.Hook.{Hook, TheVariants.{Modifying as modifying, Modified as modified}}
 use Rattle.base_roles.specs.declared.facts.Fact.TheVariants as fact
 use Rattle.base_roles.specs.Log as log
-use Rattle.base_roles.specs.World as hook
+use Rattle.base_roles.specs.declared.calls.Hook.TheVariants as hook
 use Rattle.rule_modules.specs.Chain.{Hooks, chain_told}
 use Rattle.rule_modules.specs.Delegating.{Origin, shares_given, paid_in, hook_before, delegated}
 use Rattle.rule_modules.specs.Distribution.{Shared, distribution_told, ended, started, current_taken, reward_withdrawn, slash_recorded, records_removed, records_made, payee_of, told_of, unlogged}
@@ -43,7 +44,7 @@ pub record IsCarried (Q : Shared → Log → Type 0) : Type 0 where
 
 -- a validator is created only where no start stands
 abbrev pub MayTell : Shared → Hook → Type 0
-MayTell d (hook.created v) = (who : List ℕ) → start_of d.rewards who v.operator ≡ None
+MayTell d (hook.Created v) = (who : List ℕ) → start_of d.rewards who v.operator ≡ None
 MayTell d _ = Unit {0}
 
 before_may : (d : Shared) (v : Validator) (who : List ℕ) (held : Option ℕ) → MayTell d (hook_before v who held)
@@ -96,19 +97,19 @@ module _ (Q : Shared → Log → Type 0) (carries : IsCarried Q) where
       by (Err over) e = absurd cc
 
   pub told_kept : (h : Hook) (d : Shared) (u : View) (z : Shared × View × Log) (l : Log) → MayTell d h → distribution_told d h u ≡ gives z.0 z.1 z.2 → Q d l → Q z.0 (l ++ z.2)
-  told_kept (hook.created v) d u z l m e r = given_kept (records_made v d) z.0 u z.1 ((v.operator, log.made) ∷ []) z.2 l e (carries.makes v d l m r)
-  told_kept (hook.removed v) d u z l m e r = removed_kept v d u z l e r
-  told_kept (hook.bonded v) d u z l m e r = given_kept d z.0 u z.1 [] z.2 l e (nothing_logged d l r)
-  told_kept (hook.starting v who) d u z l m e r =
+  told_kept (hook.Created v) d u z l m e r = given_kept (records_made v d) z.0 u z.1 ((v.operator, log.made) ∷ []) z.2 l e (carries.makes v d l m r)
+  told_kept (hook.Removed v) d u z l m e r = removed_kept v d u z l e r
+  told_kept (hook.Bonded v) d u z l m e r = given_kept d z.0 u z.1 [] z.2 l e (nothing_logged d l r)
+  told_kept (hook.Starting v who) d u z l m e r =
       let end : (p : ℕ) × (ended v d u ≡ Ok (p, z.0, z.1, z.2)) = answer_of (ended v d u) z e in
       ended_kept v d u (end.0, z.0, z.1, z.2) l end.1 r
-  told_kept (hook.modifying v who shares) d u z l m e r =
+  told_kept (hook.Modifying v who shares) d u z l m e r =
       let end : (coins : Money) × (reward_withdrawn v who shares d u ≡ Ok (coins, z.0, z.1, z.2)) = answer_of (reward_withdrawn v who shares d u) z e in
       withdrawn_kept v who shares d u (end.0, z.0, z.1, z.2) l end.1 r
-  told_kept (hook.modified v who shares) d u z l m e r =
+  told_kept (hook.Modified v who shares) d u z l m e r =
       let s : Shared × View × Log = started v who shares d u in
       given_kept s.0 z.0 s.1 z.1 s.2 z.2 l e (carries.starts v who shares d u l r)
-  told_kept (hook.slashing v fraction) d u z l m e r =
+  told_kept (hook.Slashing v fraction) d u z l m e r =
       let parts : (y : ℕ × Shared × View × Log) × (ended v d u ≡ Ok y) × ((event_put v fraction y, y.2, y.3) ≡ z) = recorded_parts v fraction d u z (rule_told (slash_recorded v fraction d u) z e) in
       let y : ℕ × Shared × View × Log = parts.0 in
       subst (λ (q : Shared × View × Log). Q q.0 (l ++ q.2)) parts.2 (carries.same y.1 (event_put v fraction y) (l ++ y.3) refl refl (ended_kept v d u y l parts.1 r))
@@ -155,9 +156,9 @@ module _ (Q : Shared → Log → Type 0) (carries : IsCarried Q) where
       by : (b : Bool) → (if b then validator_removed chain_told v x else Ok x) ≡ Ok y → CarriedIn y
       by true h =
           let w : World Staked Hooks = over_mine (without_validator v.operator) x in
-          let one : (t : World Staked Hooks) × (call chain_told (hook.removed v) w ≡ Ok t) × (Path (Result (World Staked Hooks) Over) (Ok (over_view (noted (fact.Removed v.operator)) t)) (Ok y)) =
-          step_parts (call chain_told (hook.removed v) w) (λ t. Ok (over_view (noted (fact.Removed v.operator)) t)) y h in
-          subst CarriedIn (same_ok (over_view (noted (fact.Removed v.operator)) one.0) y one.2) (call_kept (hook.removed v) w one.0 (λ u. refl) tt one.1 r)
+          let one : (t : World Staked Hooks) × (call chain_told (hook.Removed v) w ≡ Ok t) × (Path (Result (World Staked Hooks) Over) (Ok (over_view (noted (fact.Removed v.operator)) t)) (Ok y)) =
+          step_parts (call chain_told (hook.Removed v) w) (λ t. Ok (over_view (noted (fact.Removed v.operator)) t)) y h in
+          subst CarriedIn (same_ok (over_view (noted (fact.Removed v.operator)) one.0) y one.2) (call_kept (hook.Removed v) w one.0 (λ u. refl) tt one.1 r)
       by false h = subst CarriedIn (same_ok x y h) r
 
   left_kept : (v : Validator) (who : List ℕ) (left : ℕ) (x y : World Staked Hooks) → left_standing chain_told v who left x ≡ Ok y → CarriedIn x → CarriedIn y

@@ -10,10 +10,11 @@ use Rattle.base_shares.specs.Shares.{amount_out, value_cut_of}
 use Rattle.base_roles.specs.declared.entities.{Purse.Purse, StartingInfo.StartingInfo, Validator.Validator}
 use Rattle.base_roles.specs.{Entries.{at, with, without}, Items.no_purse, Log.Log, Orders.{pair_cmp, same_addr}}
 use Rattle.base_roles.specs.Staked.{Staked, validator_at, delegation, put_validator, is_unbonded}
-use Rattle.base_roles.specs.World.{View, World, gives, call, modifying, modified, noted, over_view, over_mine, logged}
+use Rattle.base_roles.specs.World.{View, World, gives, call, noted, over_view, over_mine, logged}
+use Rattle.base_roles.specs.declared.calls.Hook.TheVariants.{Modifying as modifying, Modified as modified}
 use Rattle.base_roles.specs.declared.facts.Fact.TheVariants as fact
 use Rattle.base_roles.specs.Log as log
-use Rattle.base_roles.specs.World as hook
+use Rattle.base_roles.specs.declared.calls.Hook.TheVariants as hook
 use Rattle.rule_modules.proofs.{EntryLemmas.{at-put, at-taken, ascend-put}, OrderLemmas.{addr_total, pair_total}}
 use Rattle.rule_modules.{proofs.SoundLemmas.to_points, specs.Chain.{Hooks, State, chain_told, staked_in, with_staked}}
 use Rattle.rule_modules.specs.Delegating.{hook_before}
@@ -273,9 +274,9 @@ emptied_fits x v y f e = by (is_unbonded v.status && (v.shares == 0)) e
     by true h =
         let op : List ℕ = v.operator in
         let w : World Staked Hooks = over_mine (without_validator op) x in
-        let one : (t : World Staked Hooks) × (call chain_told (hook.removed v) w ≡ Ok t) × (Path (Result (World Staked Hooks) Over) (Ok (over_view (noted (fact.Removed op)) t)) (Ok y)) =
-        step_parts (call chain_told (hook.removed v) w) (λ t. Ok (over_view (noted (fact.Removed op)) t)) y h in
-        let told : (z : Shared × View × Log) × (distribution_told x.hooks.0 (hook.removed v) x.view ≡ gives z.0 z.1 z.2) × (hook_gave w z ≡ one.0) = call_parts (hook.removed v) w one.0 (λ u. refl) one.1 in
+        let one : (t : World Staked Hooks) × (call chain_told (hook.Removed v) w ≡ Ok t) × (Path (Result (World Staked Hooks) Over) (Ok (over_view (noted (fact.Removed op)) t)) (Ok y)) =
+        step_parts (call chain_told (hook.Removed v) w) (λ t. Ok (over_view (noted (fact.Removed op)) t)) y h in
+        let told : (z : Shared × View × Log) × (distribution_told x.hooks.0 (hook.Removed v) x.view ≡ gives z.0 z.1 z.2) × (hook_gave w z ≡ one.0) = call_parts (hook.Removed v) w one.0 (λ u. refl) one.1 in
         let k : RecordsGo x.hooks.0 x.view op told.0 = removed_is v x.hooks.0 x.view told.0 told.1 in
         let is : over_view (noted (fact.Removed op)) (hook_gave w told.0) ≡ y = ap (over_view (noted (fact.Removed op))) told.2 ∙ same_ok (over_view (noted (fact.Removed op)) one.0) y one.2 in
         subst (LeavesFit x.mine op) is (record { fits = gone_fits x.mine x.hooks.0 x.view op told.0 f k; others = λ o apart. addr_taken op o x.mine.validators apart })

@@ -10,7 +10,8 @@ use Rattle.base_roles.specs.declared.refusal.Refusal.TheVariants.{InsufficientFu
 use Rattle.base_roles.specs.{Holdings.is_short, Log.Log, Orders.{pair_cmp, same_addr}}
 use Rattle.base_roles.specs.Staked.{Staked, validator_at, delegation, put_validator}
 use Rattle.base_roles.specs.Flow.{◌>>=◌, ◌>>◌, stop_if, stopping}
-use Rattle.base_roles.specs.World.{View, Told, gives, World, call, modified, sent, over_view, over_mine}
+use Rattle.base_roles.specs.World.{View, Told, gives, World, call, sent, over_view, over_mine}
+use Rattle.base_roles.specs.declared.calls.Hook.TheVariants.{Modified as modified}
 use Rattle.rule_modules.{proofs.{EntryLemmas.at-put, OrderLemmas.{pair_total, pair_found}}, specs.Amounts.bond_coins}
 use Rattle.rule_modules.specs.Chain.{Hooks, State, chain_told, staked_in, with_staked}
 use Rattle.rule_modules.specs.Delegating.{Origin, wallet, pool, shares_given, paid_in, hook_before, delegated}

@@ -6,7 +6,7 @@ use Rattle.base_coins.specs.Coins.{Money}
 use Rattle.base_roles.specs.{declared.entities.{StartingInfo.StartingInfo, Validator.Validator}, Log.Log}
 use Rattle.base_roles.specs.{Orders.{pair_cmp, same_addr}, Pair.{and_then, given_with}}
 use Rattle.base_roles.specs.Staked.{Staked, validator_at, delegation}
-use Rattle.base_roles.specs.World.{View, Hook, Told, gives, exceeds, World, hooked, call}
+use Rattle.base_roles.specs.{World.{View, Told, gives, exceeds, World, hooked, call}, declared.calls.Hook.Hook}
 use Rattle.rule_modules.proofs.OrderLemmas.{pair_found, same_itself}
 use Rattle.rule_modules.specs.{Chain.{Hooks, State, chain_told, with_shared}, Delegating.hook_before}
 use Rattle.rule_modules.specs.Distribution.{Shared, distribution_told, told_of, left_by, ended, reward_withdrawn}

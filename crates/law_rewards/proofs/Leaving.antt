@@ -10,10 +10,11 @@ use Rattle.base_shares.specs.Shares.{amount_out}
 use Rattle.base_roles.specs.{declared.entities.Validator.Validator, Entries.{at, without}, Items.no_purse}
 use Rattle.base_roles.specs.{Log.{Log, LogEntry}, Orders.{pair_cmp, same_addr}}
 use Rattle.base_roles.specs.{Staked.{Staked, validator_at, delegation, put_validator, is_unbonded}, Flow.{◌>>=◌}}
-use Rattle.base_roles.specs.World.{View, Told, gives, World, call, modifying, modified, noted, over_view, over_mine, logged}
+use Rattle.base_roles.specs.World.{View, Told, gives, World, call, noted, over_view, over_mine, logged}
+use Rattle.base_roles.specs.declared.calls.Hook.TheVariants.{Modifying as modifying, Modified as modified}
 use Rattle.base_roles.specs.declared.facts.Fact.TheVariants as fact
 use Rattle.base_roles.specs.Log as log
-use Rattle.base_roles.specs.World as hook
+use Rattle.base_roles.specs.declared.calls.Hook.TheVariants as hook
 use Rattle.rule_modules.proofs.{EntryLemmas.at-taken, OrderLemmas.{addr_total, pair_found}}
 use Rattle.rule_modules.specs.{Amounts.{is_empty, over_facts}, Chain.{Hooks, State, chain_told, staked_in, with_staked}}
 use Rattle.rule_modules.specs.Distribution.{Shared, distribution_told, records_removed, payee_of, paid_to, told_of, unlogged}
@@ -257,9 +258,9 @@ gone_at d x op z u v k height ascend reached there false is =
 pub removed_reached : (x : State) (v : Validator) (y : World Staked Hooks) → IsStrictlySortedBy addr_cmp (keys_of x.mine.staked.validators) → AreReached x → validator_removed chain_told v (staked_in x) ≡ Ok y → AreReached (with_staked x.mine y)
 removed_reached x v y ascend reached e =
     let w : World Staked Hooks = over_mine (without_validator v.operator) (staked_in x) in
-    let one : (t : World Staked Hooks) × (call chain_told (hook.removed v) w ≡ Ok t) × (Path (Result (World Staked Hooks) Over) (Ok (over_view (noted (fact.Removed v.operator)) t)) (Ok y)) =
-    step_parts (call chain_told (hook.removed v) w) (λ t. Ok (over_view (noted (fact.Removed v.operator)) t)) y e in
-    let told : (z : Shared × View × Log) × (distribution_told x.hooks.0 (hook.removed v) x.view ≡ gives z.0 z.1 z.2) × (hook_gave w z ≡ one.0) = call_parts (hook.removed v) w one.0 (λ u. refl) one.1 in
+    let one : (t : World Staked Hooks) × (call chain_told (hook.Removed v) w ≡ Ok t) × (Path (Result (World Staked Hooks) Over) (Ok (over_view (noted (fact.Removed v.operator)) t)) (Ok y)) =
+    step_parts (call chain_told (hook.Removed v) w) (λ t. Ok (over_view (noted (fact.Removed v.operator)) t)) y e in
+    let told : (z : Shared × View × Log) × (distribution_told x.hooks.0 (hook.Removed v) x.view ≡ gives z.0 z.1 z.2) × (hook_gave w z ≡ one.0) = call_parts (hook.Removed v) w one.0 (λ u. refl) one.1 in
     let k : RecordsGo x.hooks.0 x.view v.operator told.0 = removed_is v x.hooks.0 x.view told.0 told.1 in
     let is : over_view (noted (fact.Removed v.operator)) (hook_gave w told.0) ≡ y = ap (over_view (noted (fact.Removed v.operator))) told.2 ∙ same_ok (over_view (noted (fact.Removed v.operator)) one.0) y one.2 in
     subst (λ t. AreReached (with_staked x.mine t)) is

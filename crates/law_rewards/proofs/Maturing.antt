@@ -8,7 +8,7 @@ use Rattle.base_roles.specs.{declared.entities.Validator.Validator, Log.Log, Ord
 use Rattle.base_roles.specs.{Staked.{Staked, validator_at, put_validator, is_unbonded}, Flow.each}
 use Rattle.base_roles.specs.World.{View, World, Told, gives, call, noted, over_view, over_mine}
 use Rattle.base_roles.specs.declared.facts.Fact.TheVariants as fact
-use Rattle.base_roles.specs.World as hook
+use Rattle.base_roles.specs.declared.calls.Hook.TheVariants as hook
 use Rattle.rule_modules.proofs.{EntryLemmas.ascend-put, OperatorLemmas.values_own, OrderLemmas.addr_total}
 use Rattle.rule_modules.specs.BondedSet.{HaveOwnOperators, matured, validators_matured}
 use Rattle.rule_modules.specs.Chain.{Hooks, State, chain_told, staked_in, with_staked, maturing_step}
@@ -55,9 +55,9 @@ emptied_mine x v y e = by_empty (is_unbonded v.status && (v.shares == 0)) e
     by_empty false h = (false, ap (λ t. t.mine) (sym (same_ok (staked_in x) y h)))
     by_empty true h =
         let w : World Staked Hooks = over_mine (without_validator v.operator) (staked_in x) in
-        let one : (t : World Staked Hooks) × (call chain_told (hook.removed v) w ≡ Ok t) × (Path (Result (World Staked Hooks) Over) (Ok (over_view (noted (fact.Removed v.operator)) t)) (Ok y)) =
-        step_parts (call chain_told (hook.removed v) w) (λ t. Ok (over_view (noted (fact.Removed v.operator)) t)) y h in
-        let told : (z : Shared × View × Log) × (distribution_told x.hooks.0 (hook.removed v) x.view ≡ gives z.0 z.1 z.2) × (hook_gave w z ≡ one.0) = call_parts (hook.removed v) w one.0 (λ u. refl) one.1 in
+        let one : (t : World Staked Hooks) × (call chain_told (hook.Removed v) w ≡ Ok t) × (Path (Result (World Staked Hooks) Over) (Ok (over_view (noted (fact.Removed v.operator)) t)) (Ok y)) =
+        step_parts (call chain_told (hook.Removed v) w) (λ t. Ok (over_view (noted (fact.Removed v.operator)) t)) y h in
+        let told : (z : Shared × View × Log) × (distribution_told x.hooks.0 (hook.Removed v) x.view ≡ gives z.0 z.1 z.2) × (hook_gave w z ≡ one.0) = call_parts (hook.Removed v) w one.0 (λ u. refl) one.1 in
         (true, ap (λ t. t.mine) (sym (same_ok (over_view (noted (fact.Removed v.operator)) one.0) y one.2)) ∙ ap (λ t. t.mine) (sym told.2))
 
 known_kept : (s : Staked) (op : List ℕ) (vs : List Validator) → AllByRecursion (λ u. same_addr op u.operator ≡ false) vs → AllByRecursion (λ u. validator_at s u.operator ≡ Some u) vs → (b : Bool)

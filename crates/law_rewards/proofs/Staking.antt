@@ -10,10 +10,11 @@ use Rattle.base_roles.specs.declared.{entities.Validator.Validator, refusal.Refu
 use Rattle.base_roles.specs.{declared.refusal.Refusal.TheVariants.{InsufficientFunds, Overflow}, Holdings.is_short}
 use Rattle.base_roles.specs.{Log.Log, Staked.{Staked, validator_at, delegation, put_validator, is_unbonded}}
 use Rattle.base_roles.specs.Flow.{◌>>=◌, stopping}
-use Rattle.base_roles.specs.World.{View, World, gives, call, modifying, modified, noted, sent, over_view, over_mine, logged}
+use Rattle.base_roles.specs.World.{View, World, gives, call, noted, sent, over_view, over_mine, logged}
+use Rattle.base_roles.specs.declared.calls.Hook.TheVariants.{Modifying as modifying, Modified as modified}
 use Rattle.base_roles.specs.declared.facts.Fact.TheVariants as fact
 use Rattle.base_roles.specs.Log as log
-use Rattle.base_roles.specs.World as hook
+use Rattle.base_roles.specs.declared.calls.Hook.TheVariants as hook
 use Rattle.rule_modules.specs.{Amounts.{bond_coins, is_empty, over_facts}, Chain.{Hooks, State, chain_told, staked_in}}
 use Rattle.rule_modules.specs.Delegating.{Origin, wallet, pool, shares_given, paid_in, hook_before, delegated}
 use Rattle.rule_modules.specs.Distribution.{Shared, distribution_told, records_removed, payee_of, paid_to, told_of, unlogged}
@@ -128,9 +129,9 @@ pays_emptied v x y e = by (is_unbonded v.status && (v.shares == 0)) e
     by : (b : Bool) → (if b then validator_removed chain_told v x else Ok x) ≡ Ok y → PaysIn x y
     by true h =
         let w : World Staked Hooks = over_mine (without_validator v.operator) x in
-        let one : (t : World Staked Hooks) × (call chain_told (hook.removed v) w ≡ Ok t) × (Path (Result (World Staked Hooks) Over) (Ok (over_view (noted (fact.Removed v.operator)) t)) (Ok y)) =
-        step_parts (call chain_told (hook.removed v) w) (λ t. Ok (over_view (noted (fact.Removed v.operator)) t)) y h in
-        let told : (z : Shared × View × Log) × (distribution_told x.hooks.0 (hook.removed v) x.view ≡ gives z.0 z.1 z.2) × (hook_gave w z ≡ one.0) = call_parts (hook.removed v) w one.0 (λ u. refl) one.1 in
+        let one : (t : World Staked Hooks) × (call chain_told (hook.Removed v) w ≡ Ok t) × (Path (Result (World Staked Hooks) Over) (Ok (over_view (noted (fact.Removed v.operator)) t)) (Ok y)) =
+        step_parts (call chain_told (hook.Removed v) w) (λ t. Ok (over_view (noted (fact.Removed v.operator)) t)) y h in
+        let told : (z : Shared × View × Log) × (distribution_told x.hooks.0 (hook.Removed v) x.view ≡ gives z.0 z.1 z.2) × (hook_gave w z ≡ one.0) = call_parts (hook.Removed v) w one.0 (λ u. refl) one.1 in
         let out : World Staked Hooks = over_view (noted (fact.Removed v.operator)) (hook_gave w told.0) in
         let is : out ≡ y = ap (over_view (noted (fact.Removed v.operator))) told.2 ∙ same_ok (over_view (noted (fact.Removed v.operator)) one.0) y one.2 in
         subst (λ t. PaysIn x t) is

@@ -14,7 +14,8 @@ use Rattle.base_roles.specs.declared.refusal.Refusal.TheVariants.{WrongDenom, No
 use Rattle.base_roles.specs.{Log.Log, Orders.{pair_cmp, same_addr}}
 use Rattle.base_roles.specs.Staked.{Staked, validator_at, delegation, put_validator, is_bonded}
 use Rattle.base_roles.specs.Flow.{◌>>=◌, ◌>>◌, stop_if, or_stop, stopping}
-use Rattle.base_roles.specs.World.{View, gives, World, call, modifying, modified, sent, noted, over_view, over_mine, logged}
+use Rattle.base_roles.specs.World.{View, gives, World, call, sent, noted, over_view, over_mine, logged}
+use Rattle.base_roles.specs.declared.calls.Hook.TheVariants.{Modifying as modifying, Modified as modified}
 use Rattle.base_roles.specs.declared.facts.Fact.TheVariants as fact
 use Rattle.base_roles.specs.Log as log
 use Rattle.rule_modules.{proofs.{EntryLemmas.ascend-put, OrderLemmas.addr_total}, specs.Amounts.bond_coins}

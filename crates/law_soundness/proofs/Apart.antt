@@ -8,9 +8,10 @@ use Rattle.base_shares.specs.Shares.{value_cut_of, value_even_of}
 use Rattle.base_roles.specs.declared.entities.{Purse.Purse, StartingInfo.StartingInfo, Validator.Validator}
 use Rattle.base_roles.specs.{Entries.{at, with, without}, Items.no_purse, Orders.{pair_cmp, same_addr}}
 use Rattle.base_roles.specs.{Staked.{Staked, delegation, is_unbonded}, Flow.{◌>>=◌}}
-use Rattle.base_roles.specs.World.{View, World, call, modified, modifying, noted, over_mine, over_view}
+use Rattle.base_roles.specs.World.{View, World, call, noted, over_mine, over_view}
+use Rattle.base_roles.specs.declared.calls.Hook.TheVariants.{Modified as modified, Modifying as modifying}
 use Rattle.base_roles.specs.declared.facts.Fact.TheVariants as fact
-use Rattle.base_roles.specs.World as hook
+use Rattle.base_roles.specs.declared.calls.Hook.TheVariants as hook
 use Rattle.law_soundness.proofs.{Hooking.{called_if, hook_gave, left_if, on_call, unlogged_if}, Steps.on_then}
 use Rattle.law_soundness.proofs.Unbonding.{less_of, lessened, may_jail, now_of}
 use Rattle.rule_modules.proofs.{GoingLemmas.on_bind, EntryLemmas.at-put}
@@ -177,7 +178,7 @@ module _ (who t : List ℕ) where
     where
       by : (b : Bool) → IfOk (if b then validator_removed chain_told v x else Ok x) (IsApart w)
       by true =
-          on_call (hook.removed v) (over_mine (without_validator v.operator) x) (λ z. Ok (over_view (noted (fact.Removed v.operator)) z)) (λ d u. ReadsSame who t x.hooks.0 d) (IsApart w) (λ u. refl)
+          on_call (hook.Removed v) (over_mine (without_validator v.operator) x) (λ z. Ok (over_view (noted (fact.Removed v.operator)) z)) (λ d u. ReadsSame who t x.hooks.0 d) (IsApart w) (λ u. refl)
           (unlogged_if (records_removed v x.hooks.0 x.view) (λ d u. ReadsSame who t x.hooks.0 d) (removed_apart v x.hooks.0 x.view e))
           (λ d u l r. record { reads = reads_then w.hooks.0 x.hooks.0 d k.reads r; held = k.held })
       by false = k

@@ -10,8 +10,8 @@ use Rattle.base_roles.specs.declared.{entities.Validator.Validator, refusal.Refu
 use Rattle.base_roles.specs.declared.refusal.Refusal.TheVariants.{CommissionBelowMinimum, CommissionRange, ConsKeyExists, InsufficientFunds, MinSelfNotPositive, NonPositive, Overflow, SelfBelowMinimum, TinyDelegation, ValidatorExists, WrongDenom}
 use Rattle.base_roles.specs.{Holdings.is_short, Items.no_purse, Log.Log, Pair.{and_then, given_with}}
 use Rattle.base_roles.specs.Staked.{Staked, delegation, put_validator, validator_at, validator_by_cons}
-use Rattle.base_roles.specs.Flow.{◌>>=◌, ◌>>◌, stop_if, stopping}
-use Rattle.base_roles.specs.{World.{View, World, call, hooked, over_mine, starting}, declared.entities.Purse.Purse}
+use Rattle.base_roles.specs.{Flow.{◌>>=◌, ◌>>◌, stop_if, stopping}, World.{View, World, call, hooked, over_mine}}
+use Rattle.base_roles.specs.declared.{entities.Purse.Purse, calls.{Hook.{TheVariants.{Starting as starting}}}}
 use Rattle.base_roles.specs.Log as log
 use Rattle.law_soundness.proofs.{Rewards.put_found, Burns.total_in, Creating.{none_started, none_is}}
 use Rattle.law_soundness.proofs.{Founding.{period_sure, pooled_at, sure_then}, Hooking.hook_gave}

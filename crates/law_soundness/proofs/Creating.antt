@@ -10,7 +10,7 @@ use Rattle.base_roles.specs.{Hooks.with_operator, Owing.Lists, Flow.{◌>>=◌, 
 use Rattle.base_roles.specs.{Entries.{at, with}, Items.no_purse, Orders.{pair_cmp, same_addr}}
 use Rattle.base_roles.specs.Staked.{Staked, is_bonded, is_unbonded, lists_of, delegation, tokens_where, validator_by_cons, validator_at, put_validator}
 use Rattle.base_roles.specs.StakeChanges.{of_bond}
-use Rattle.base_roles.specs.World as hook
+use Rattle.base_roles.specs.declared.calls.Hook.TheVariants as hook
 use Rattle.rule_modules.specs.{Delegating.{wallet, delegated, is_wrong}, Chain.{Hooks, State, chain_told, staked_in}}
 use Rattle.rule_modules.specs.{Distribution.{Shared, records_made}, Effects.create_validator, Owed.entry_balances}
 use Rattle.rule_modules.specs.{Periods.{Periods, Rewards, initial_records, ratio_at, start_of}, Sound.ValidatorIsSound}
@@ -158,7 +158,7 @@ module _ (P : List ℕ → Type 0) (T : List ℕ → ℕ) where
       let l = lists_of w.mine in
       let w1 : World Staked Hooks = over_mine (put_validator v) w in
       let joined = stake_joined b n l w v s new apart ok tokens shares unbonded in
-      on_hook g (hook.created v) w1 f (λ d u. Leaves P T w1.view (with_operator v.operator true l) d u × (u ≡ w.view)) Q (λ u. refl)
+      on_hook g (hook.Created v) w1 f (λ d u. Leaves P T w1.view (with_operator v.operator true l) d u × (u ≡ w.view)) Q (λ u. refl)
       (made_leaves v w1.view l w1.hooks.0 (stake_hooks P T b n l w1 joined) (ap is_some new) (none_started w.view.ctx.height w.mine v.operator s.staked new), refl)
       (λ d u k left. next (hook_gave w1 d u k) refl left.1
       (stake_relisted P T b n (with_operator v.operator true l) (lists_of w1.mine) (hook_gave w1 d u k) (stake_left P T b n l (with_operator v.operator true l) w1 d u (w1.log ++ k) joined left.0)

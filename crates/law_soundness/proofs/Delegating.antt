@@ -9,8 +9,8 @@ use Rattle.base_coins.specs.{Coins.{IsMoney, amount_of, coin_then}, declared.coi
 use Rattle.base_roles.specs.declared.{entities.Validator.Validator, refusal.Refusal.Refusal}
 use Rattle.base_roles.specs.declared.refusal.Refusal.TheVariants.{InsufficientFunds, NonPositive, NoValidator, TinyDelegation, WrongDenom, Overflow}
 use Rattle.base_roles.specs.{Holdings.{Holdings, balance_of, moved, is_short, IsBacked}, Flow.stopping}
-use Rattle.base_roles.specs.{World.{View, World, sent, over_view, over_mine, modified}, Hooks.with_started, Owing.Lists}
-use Rattle.base_roles.specs.Orders.{pair_cmp, same_addr}
+use Rattle.base_roles.specs.{World.{View, World, sent, over_view, over_mine}, Hooks.with_started, Owing.Lists}
+use Rattle.base_roles.specs.{declared.{calls.{Hook.{TheVariants.{Modified as modified}}}}, Orders.{pair_cmp, same_addr}}
 use Rattle.base_roles.specs.Staked.{Staked, bonded_tokens, is_bonded, lists_of, other_tokens, delegation, validator_at, put_validator}
 use Rattle.base_roles.{specs.{StakeChanges.of_bond, declared.params.Ctx.Ctx}, proofs.AmountLemmas.moves_by_amounts}
 use Rattle.base_roles.proofs.HoldingLemmas.{balance-most, first_enough}

@@ -6,7 +6,7 @@ use Rattle.base_roles.specs.{declared.refusal.Refusal.TheVariants.{NoValidator, 
 use Rattle.base_roles.specs.{Log.Log, Orders.pair_cmp, Pair.{and_then, given_with}}
 use Rattle.base_roles.specs.{Staked.{Staked, is_unbonded, delegation, put_validator}, World.{View, World, call, hooked}}
 use Rattle.base_roles.specs.declared.entities.{Purse.Purse, Validator.Validator}
-use Rattle.base_roles.specs.World as hook
+use Rattle.base_roles.specs.declared.calls.Hook.TheVariants as hook
 use Rattle.base_types.specs.declared.status.BondStatus.{BondStatus, TheVariants.{Bonded, Unbonding, Unbonded}}
 use Rattle.base_types.specs.Orders.{addr_cmp}
 use Rattle.base_decimals.specs.{declared.over.Over.Over, Decimals.period_over}
@@ -110,11 +110,11 @@ ended_sure val k d v c l =
 
 -- the hook before a new delegation
 starting_sure : (v : Validator) (who : List ℕ) (k : ℕ) (w : World Staked Hooks) → CanEnd k w.hooks.0 → k < 10 ^ 18
-    → IsOkAnd (stopping Overflow (call chain_told (hook.starting v who) w)) (λ x. (x.mine ≡ w.mine) × CanEnd (k + 1) x.hooks.0)
+    → IsOkAnd (stopping Overflow (call chain_told (hook.Starting v who) w)) (λ x. (x.mine ≡ w.mine) × CanEnd (k + 1) x.hooks.0)
 starting_sure v who k w c l = by (ended v w.hooks.0 w.view) (ended_sure v k w.hooks.0 w.view c l)
   where
     by : (r : Result (ℕ × Shared × View × Log) Over) → IsOkAnd r (λ z. CanEnd (k + 1) z.1)
-        → IsOkAnd (stopping Overflow (hooked (and_then (told_of (left_by r)) (λ d u more. given_with d more (window_told w.hooks.1 (hook.starting v who) u))) w)) (λ x. (x.mine ≡ w.mine) × CanEnd (k + 1) x.hooks.0)
+        → IsOkAnd (stopping Overflow (hooked (and_then (told_of (left_by r)) (λ d u more. given_with d more (window_told w.hooks.1 (hook.Starting v who) u))) w)) (λ x. (x.mine ≡ w.mine) × CanEnd (k + 1) x.hooks.0)
     by (Ok z) h = (refl, h)
     by (Err e) h = absurd h
 

@@ -25,7 +25,7 @@ use Rattle.base_types.specs.{Orders.addr_cmp, declared.status.BondStatus.TheVari
 use Rattle.base_types.specs.declared.account.Account.TheVariants as account
 use Rattle.base_types.specs.declared.account.Module.TheVariants as holder
 use Rattle.base_decimals.specs.declared.over.Over.{Over}
-use Rattle.base_roles.specs.World as hook
+use Rattle.base_roles.specs.declared.calls.Hook.TheVariants as hook
 use Rattle.base_roles.specs.declared.facts.Fact.TheVariants as fact
 
 -- a rule gives
@@ -130,7 +130,7 @@ module _ (P : List ℕ → Type 0) (T : List ℕ → ℕ) where
       let w1 : World Staked Hooks = over_mine (without_validator v.operator) w in
       let gone = stake_removed P T b n l w v h found none in
       let (z, e) = removal_gives v w1.view l w1.hooks.0 (stake_hooks P T b n l w1 gone) (ap is_some found) in
-      subst (λ (r : Result (Shared × View) Over). Gives (hooked (and_then (told_of (unlogged r)) (λ d u k. given_with d k (window_told w1.hooks.1 (hook.removed v) u))) w1 >>= λ x. Ok (over_view (noted (fact.Removed v.operator)) x))) (sym e) (_, refl)
+      subst (λ (r : Result (Shared × View) Over). Gives (hooked (and_then (told_of (unlogged r)) (λ d u k. given_with d k (window_told w1.hooks.1 (hook.Removed v) u))) w1 >>= λ x. Ok (over_view (noted (fact.Removed v.operator)) x))) (sym e) (_, refl)
 
   pub removed_gives : (b n : ℕ) (w : World Staked Hooks) (v : Validator) → StakeFits P T b n (lists_of w.mine) w → validator_at w.mine v.operator ≡ Some v → Gives (removed_if_empty chain_told v w)
   removed_gives b n w v h found = by (is_unbonded v.status) (v.shares == 0) refl

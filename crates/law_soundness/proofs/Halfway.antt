@@ -10,7 +10,7 @@ use Rattle.base_roles.specs.declared.refusal.Refusal.TheVariants.{NoValidator, O
 use Rattle.base_roles.specs.{Holdings.{Holdings, balance_of}, Log.Log, Orders.pair_cmp, Pair.{and_then, given_with}}
 use Rattle.base_roles.specs.Staked.{Staked, delegation, is_unbonded, put_validator}
 use Rattle.base_roles.specs.{Flow.{◌>>=◌, each, or_stop, stopping}, World.{View, World, call, hooked}}
-use Rattle.base_roles.specs.World as hook
+use Rattle.base_roles.specs.declared.calls.Hook.TheVariants as hook
 use Rattle.base_messages.specs.declared.genesis.{Genesis.Genesis, GenesisDelegation.GenesisDelegation}
 use Rattle.base_messages.specs.declared.genesis.GenesisValidator.{GenesisValidator}
 use Rattle.rule_machine.specs.{Founding.{IsStarting, no_hook}, GenesisConditions.{has_pair_twice, start_condition}}
@@ -50,11 +50,11 @@ ended_still val d v =
     record { bank = refl; ctx = refl }))
 
 -- the hook before it
-starting_still : (v : Validator) (who : List ℕ) (w : World Staked Hooks) → IfOk (stopping Overflow (call chain_told (hook.starting v who) w)) (λ x. (x.mine ≡ w.mine) × IsStill w.view x.view)
+starting_still : (v : Validator) (who : List ℕ) (w : World Staked Hooks) → IfOk (stopping Overflow (call chain_told (hook.Starting v who) w)) (λ x. (x.mine ≡ w.mine) × IsStill w.view x.view)
 starting_still v who w = by (ended v w.hooks.0 w.view) (ended_still v w.hooks.0 w.view)
   where
     by : (r : Result (ℕ × Shared × View × Log) Over) → IfOk r (λ z. IsStill w.view z.2)
-        → IfOk (stopping Overflow (hooked (and_then (told_of (left_by r)) (λ d u more. given_with d more (window_told w.hooks.1 (hook.starting v who) u))) w)) (λ x. (x.mine ≡ w.mine) × IsStill w.view x.view)
+        → IfOk (stopping Overflow (hooked (and_then (told_of (left_by r)) (λ d u more. given_with d more (window_told w.hooks.1 (hook.Starting v who) u))) w)) (λ x. (x.mine ≡ w.mine) × IsStill w.view x.view)
     by (Ok z) h = (refl, h)
     by (Err e) h = tt
 

@@ -1,9 +1,9 @@
 -- Calls of the chain's hooks: distribution does its part, and the window nothing, but where a validator is bonded.
 use Rattle.std.proofs.Common.{◌≡◌, ℕ, true, false, cond, List, [], ◌++◌, Some, None, Option, Result, Ok, Err, refl, sym, subst, ◌&&◌, IfOk, is_some}
 use Rattle.base_roles.specs.{Log.Log, Pair.{and_then, given_with}}
-use Rattle.base_roles.specs.{World.{View, Hook, Told, gives, exceeds, World, hooked, call}, Flow.{◌>>=◌, stopping}}
-use Rattle.base_roles.specs.{declared.entities.Validator.Validator, Hooks.with_started, Owing.Lists, Orders.same_addr}
-use Rattle.base_roles.specs.Staked.{Staked}
+use Rattle.base_roles.specs.{World.{View, Told, gives, exceeds, World, hooked, call}, Flow.{◌>>=◌, stopping}}
+use Rattle.base_roles.specs.{declared.{calls.Hook.Hook, entities.Validator.Validator}, Hooks.with_started, Owing.Lists}
+use Rattle.base_roles.specs.{Orders.same_addr, Staked.Staked}
 use Rattle.rule_modules.specs.Distribution.{Shared, distribution_told, told_of, left_by, unlogged, ended, reward_withdrawn}
 use Rattle.rule_modules.specs.{Delegating.hook_before, Chain.{Hooks, chain_told}, Window.{Window, window_told}}
 use Rattle.base_decimals.specs.declared.over.Over.{Over}

@@ -11,7 +11,8 @@ use Rattle.base_shares.specs.Shares.{value_even_of}
 use Rattle.base_roles.specs.declared.entities.{Purse.Purse, StartingInfo.StartingInfo, Validator.Validator}
 use Rattle.base_roles.specs.{declared.refusal.Refusal.{Refusal, TheVariants.Overflow}, Entries.at, Owing.Lists}
 use Rattle.base_roles.specs.{Items.no_purse, Log.Log, Pair.{and_then, given_with}, Staked.Staked, Flow.{◌>>=◌}}
-use Rattle.base_roles.specs.World.{View, World, call, hooked, modifying, noted, starting}
+use Rattle.base_roles.specs.World.{View, World, call, hooked, noted}
+use Rattle.base_roles.specs.declared.calls.Hook.TheVariants.{Modifying as modifying, Starting as starting}
 use Rattle.base_roles.proofs.HoldingLemmas.{balance-most}
 use Rattle.base_roles.specs.declared.facts.Fact.TheVariants as fact
 use Rattle.base_roles.specs.Log as log

@@ -8,7 +8,8 @@ use Rattle.base_roles.specs.declared.{entities.Validator.Validator, refusal.Refu
 use Rattle.base_roles.specs.declared.refusal.Refusal.TheVariants.{NoDelegation, NoTokens, NoValidator, NonPositive, Overflow, RateInvalid, RedelegationsFull, SelfRedelegation, TinyDelegation, TinyRedelegation, TooManyShares, Transitive, WrongDenom}
 use Rattle.base_roles.specs.{Orders.same_addr, Staked.{Staked, delegation, lists_of, validator_at}}
 use Rattle.base_roles.specs.Flow.{◌>>=◌, ◌>>◌, or_stop, stop_if, stopping}
-use Rattle.base_roles.specs.World.{Told, World, call, exceeds, gives, hooked, modifying}
+use Rattle.base_roles.specs.World.{Told, World, call, exceeds, gives, hooked}
+use Rattle.base_roles.specs.declared.calls.Hook.TheVariants.{Modifying as modifying}
 use Rattle.law_soundness.proofs.{Apart.{IsApart, unbonded_apart}, Burns.total_in, Hooking.stake_hooks}
 use Rattle.law_soundness.proofs.{Limits.{hook_reads, limit_alike, limit_before}, Points.{StateFits, to_fits}}
 use Rattle.law_soundness.proofs.{Refused.{given_refused, pool_refused, stop_known}, Standing.own_place, Steps.from_if}

@@ -14,7 +14,8 @@ use Rattle.base_roles.specs.declared.refusal.Refusal.TheVariants.{CancelTooMuch,
 use Rattle.base_roles.specs.{Holdings.is_short, Log.Log, Pair.{and_then, given_with}}
 use Rattle.base_roles.specs.Staked.{Staked, delegation, put_validator, validator_at}
 use Rattle.base_roles.specs.Flow.{◌>>=◌, ◌>>◌, or_stop, stop_if, stopping}
-use Rattle.base_roles.specs.World.{Told, View, World, call, exceeds, gives, hooked, modified, modifying, over_mine, over_view, sent}
+use Rattle.base_roles.specs.World.{Told, View, World, call, exceeds, gives, hooked, over_mine, over_view, sent}
+use Rattle.base_roles.specs.declared.calls.Hook.TheVariants.{Modified as modified, Modifying as modifying}
 use Rattle.law_soundness.proofs.{Burns.total_in, Points.{StateFits, to_fits}}
 use Rattle.law_soundness.specs.StepLaws.{CancellationsNameConditions, DelegationsNameConditions, RewardsNameConditions}
 use Rattle.rule_modules.{proofs.RefusalLemmas.{mapped, stop_step}, specs.Amounts.bond_coins}

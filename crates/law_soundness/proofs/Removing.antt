@@ -11,7 +11,7 @@ use Rattle.base_roles.specs.{Holdings.balance_of, Items.no_purse, Orders.{pair_c
 use Rattle.base_roles.specs.Staked.{Staked, is_bonded, is_unbonded, lists_of, tokens_where, validator_at}
 use Rattle.base_roles.specs.{StakeChanges.of_bond, declared.facts.Fact.Fact}
 use Rattle.base_roles.specs.declared.facts.Fact.TheVariants as fact
-use Rattle.base_roles.specs.World as hook
+use Rattle.base_roles.specs.declared.calls.Hook.TheVariants as hook
 use Rattle.base_coins.proofs.{Amounts.{amount-added, amount-all}, Order.rises_from_money}
 use Rattle.base_coins.specs.Coins.{Money, amount_of, coins_added, coins_taken, fractions}
 use Rattle.base_decimals.specs.Decimals.{trunc_of}
@@ -218,7 +218,7 @@ module _ (P : List ℕ → Type 0) (T : List ℕ → ℕ) where
       let op = v.operator in
       let w1 : World Staked Hooks = over_mine (without_validator op) w in
       let gone = stake_removed b n l w v h found none in
-      on_call (hook.removed v) w1 (λ x. Ok (over_view (noted (fact.Removed op)) x)) (λ d u. Leaves P T w1.view (with_operator op false l) d u) (StakeLeft b n w op) (λ u. refl)
+      on_call (hook.Removed v) w1 (λ x. Ok (over_view (noted (fact.Removed op)) x)) (λ d u. Leaves P T w1.view (with_operator op false l) d u) (StakeLeft b n w op) (λ u. refl)
       (unlogged_if (records_removed v w1.hooks.0 w1.view) (λ d u. Leaves P T w1.view (with_operator op false l) d u) (removal_leaves v w1.view l w1.hooks.0 (stake_hooks P T b n l w1 gone) (ap is_some found)))
       (λ d u k left. record {
         fits = stake_told P T b n (lists_of w1.mine) (hook_gave w1 d u k) (λ facts. facts ++ fact.Removed op ∷ []) (quiet_behind u.facts (fact.Removed op) (λ x. refl))

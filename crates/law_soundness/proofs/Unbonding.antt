@@ -5,7 +5,8 @@ use Rattle.std.proofs.lemmas.Bool.Decides.{nat_tests}
 use Rattle.base_types.specs.{declared.status.BondStatus.BondStatus, Orders.addr_cmp}
 use Rattle.base_shares.{proofs.Values.value_whole_most, specs.Shares.{amount_out, value_even_of}}
 use Rattle.base_roles.specs.{declared.entities.Validator.Validator, Hooks.with_started, Owing.Lists, Log.Log}
-use Rattle.base_roles.specs.World.{View, World, over_mine, logged, call, modifying, modified}
+use Rattle.base_roles.specs.World.{View, World, over_mine, logged, call}
+use Rattle.base_roles.specs.declared.calls.Hook.TheVariants.{Modifying as modifying, Modified as modified}
 use Rattle.base_roles.specs.{Entries.{at, number_at, with, with_number, without}, Orders.{pair_cmp, same_addr}}
 use Rattle.base_roles.specs.Staked.{Staked, bonded_tokens, is_bonded, is_unbonded, lists_of, other_tokens, delegation, validator_at, put_validator}
 use Rattle.base_roles.specs.{StakeChanges.of_bond, declared.params.Ctx.Ctx}

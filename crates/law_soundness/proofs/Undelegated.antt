@@ -13,7 +13,8 @@ use Rattle.base_roles.specs.declared.refusal.Refusal.TheVariants.{NoDelegation, 
 use Rattle.base_roles.specs.{Hooks.with_started, Log.Log, Pair.{and_then, given_with}}
 use Rattle.base_roles.specs.Staked.{Staked, delegation, is_bonded, lists_of, validator_at}
 use Rattle.base_roles.specs.Flow.{◌>>=◌, ◌>>◌, or_stop, stop_if, stopping}
-use Rattle.base_roles.specs.World.{Told, View, World, call, exceeds, gives, hooked, modified, modifying, over_mine, over_view, sent}
+use Rattle.base_roles.specs.World.{Told, View, World, call, exceeds, gives, hooked, over_mine, over_view, sent}
+use Rattle.base_roles.specs.declared.calls.Hook.TheVariants.{Modified as modified, Modifying as modifying}
 use Rattle.law_soundness.proofs.{Burns.total_in, Giving.{Gives, gives_on, removed_gives}}
 use Rattle.law_soundness.proofs.{Hooking.{IfTold, before_told, hook_gave, stake_hooks}, Moves.Leaves}
 use Rattle.law_soundness.proofs.{Points.{StakeFits, StateFits, to_fits}, Standing.own_place, Steps.from_if}

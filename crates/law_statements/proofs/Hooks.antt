@@ -12,10 +12,10 @@ use Rattle.base_roles.specs.declared.{entities.{Purse.Purse, Validator.Validator
 use Rattle.base_roles.specs.{Entries.{at, with, without}, Flow.{◌>>=◌}, Holdings.transfer_told, Items.no_purse}
 use Rattle.base_roles.specs.{Log.{Log, LogEntry}, Orders.same_addr, Pair.and_then}
 use Rattle.base_roles.specs.Staked.{Staked, put_validator, validator_at}
-use Rattle.base_roles.specs.World.{View, Hook, Told, World, call, exceeds, gives, hooked, noted}
+use Rattle.base_roles.specs.{World.{View, Told, World, call, exceeds, gives, hooked, noted}, declared.calls.Hook.Hook}
 use Rattle.base_roles.specs.declared.facts.Fact.TheVariants as fact
 use Rattle.base_roles.specs.Log as log
-use Rattle.base_roles.specs.World as hook
+use Rattle.base_roles.specs.declared.calls.Hook.TheVariants as hook
 use Rattle.rule_modules.specs.Amounts.{is_empty, over_facts}
 use Rattle.rule_modules.specs.Distribution.{Shared, distribution_told, ended, payee_of, paid_to, records_made, records_removed, reward_due, reward_withdrawn, slash_recorded, started, told_of, unlogged}
 use Rattle.rule_modules.specs.Periods.{Periods, event_recorded, initial_records, last_ended, periods_of, reward_at, start_of}
@@ -271,45 +271,45 @@ module _ (p : Pair) (v : Option Validator) (t0 : Tracked) (n0 : ℕ) (base : Log
 
     -- ---- the hooks
 
-    module _ (val : Validator) (who : List ℕ) (w y : World Staked H) (e : call told (hook.starting val who) w ≡ Ok y) where
-      starting_called : IsCalled (hook.starting val who) w y
-      starting_called = called (hook.starting val who) w y e
+    module _ (val : Validator) (who : List ℕ) (w y : World Staked H) (e : call told (hook.Starting val who) w ≡ Ok y) where
+      starting_called : IsCalled (hook.Starting val who) w y
+      starting_called = called (hook.Starting val who) w y e
 
       starting_end : (a : ℕ) × (ended val (of w.hooks).0 w.view ≡ Ok (a, (of y.hooks).0, y.view, starting_called.more))
       starting_end = answer_of (ended val (of w.hooks).0 w.view) ((of y.hooks).0, y.view, starting_called.more) starting_called.given
 
       pub starting_holds : (b : ℕ) → MayEnd val (of w.hooks).0 w.log → HoldsIn b w → HoldsIn b y
       starting_holds b tied h =
-          after b (hook.starting val who) w y starting_called
+          after b (hook.Starting val who) w y starting_called
           (holds_ended p v t0 n0 base earlier val (of w.hooks).0 w.view (starting_end.0, (of y.hooks).0, y.view, starting_called.more) starting_end.1 b (of w.hooks).1 w.log tied h)
 
       pub starting_tied : TiedIn w → TiedIn y
       starting_tied t =
-          after_ties (hook.starting val who) w y starting_called
+          after_ties (hook.Starting val who) w y starting_called
           (ended_tied p v t0 n0 base earlier val (of w.hooks).0 w.view (starting_end.0, (of y.hooks).0, y.view, starting_called.more) starting_end.1 0 (of w.hooks).1 w.log t)
 
-    module _ (val : Validator) (who : List ℕ) (shares : ℕ) (w y : World Staked H) (e : call told (hook.modifying val who shares) w ≡ Ok y) where
-      modifying_called : IsCalled (hook.modifying val who shares) w y
-      modifying_called = called (hook.modifying val who shares) w y e
+    module _ (val : Validator) (who : List ℕ) (shares : ℕ) (w y : World Staked H) (e : call told (hook.Modifying val who shares) w ≡ Ok y) where
+      modifying_called : IsCalled (hook.Modifying val who shares) w y
+      modifying_called = called (hook.Modifying val who shares) w y e
 
       modifying_end : (a : Money) × (reward_withdrawn val who shares (of w.hooks).0 w.view ≡ Ok (a, (of y.hooks).0, y.view, modifying_called.more))
       modifying_end = answer_of (reward_withdrawn val who shares (of w.hooks).0 w.view) ((of y.hooks).0, y.view, modifying_called.more) modifying_called.given
 
       pub modifying_holds : MayEnd val (of w.hooks).0 w.log → HoldsIn 0 w → HoldsIn (touch p v t0 n0 base earlier val.operator) y
       modifying_holds tied h =
-          after (touch p v t0 n0 base earlier val.operator) (hook.modifying val who shares) w y modifying_called
+          after (touch p v t0 n0 base earlier val.operator) (hook.Modifying val who shares) w y modifying_called
           (holds_touched p v t0 n0 base earlier 0 (of w.hooks).1 y.view.facts (w.log ++ modifying_called.more)
           (withdrawal_holds val who shares (of w.hooks).0 w.view (modifying_end.0, (of y.hooks).0, y.view, modifying_called.more) modifying_end.1 0 (of w.hooks).1 w.log tied h)
           val.operator who refl)
 
       pub modifying_tied : TiedIn w → TiedIn y
       modifying_tied t =
-          after_ties (hook.modifying val who shares) w y modifying_called
+          after_ties (hook.Modifying val who shares) w y modifying_called
           (withdrawal_tied val who shares (of w.hooks).0 w.view (modifying_end.0, (of y.hooks).0, y.view, modifying_called.more) modifying_end.1 0 (of w.hooks).1 w.log t)
 
-    module _ (val : Validator) (who : List ℕ) (shares : ℕ) (w y : World Staked H) (e : call told (hook.modified val who shares) w ≡ Ok y) where
-      modified_called : IsCalled (hook.modified val who shares) w y
-      modified_called = called (hook.modified val who shares) w y e
+    module _ (val : Validator) (who : List ℕ) (shares : ℕ) (w y : World Staked H) (e : call told (hook.Modified val who shares) w ≡ Ok y) where
+      modified_called : IsCalled (hook.Modified val who shares) w y
+      modified_called = called (hook.Modified val who shares) w y e
 
       abbrev begun : Shared × View × Log
       begun = started val who shares (of w.hooks).0 w.view
@@ -321,38 +321,38 @@ module _ (p : Pair) (v : Option Validator) (t0 : Tracked) (n0 : ℕ) (base : Log
       modified_holds b once h =
           let told_fact : Keeps b begun.0 (of w.hooks).1 begun.1.facts w.log =
           holds_told p v t0 n0 base earlier b (of w.hooks).1 w.view.facts w.log (fact.Started who val.operator (last_ended (periods_of (of w.hooks).0.rewards val.operator)) (value_cut_of val.tokens val.shares shares)) (λ x. refl) h in
-          let all : Keeps b begun.0 (heard (of w.hooks).1 (hook.modified val who shares) begun.1) begun.1.facts (w.log ++ begun.2) =
+          let all : Keeps b begun.0 (heard (of w.hooks).1 (hook.Modified val who shares) begun.1) begun.1.facts (w.log ++ begun.2) =
           holds_begun p v t0 n0 base earlier b (of w.hooks).1 begun.1.facts w.log told_fact val.operator who shares val.tokens val.shares (value_cut_of val.tokens val.shares shares) once in
-          after b (hook.modified val who shares) w y modified_called
-          (subst (λ (m : Log). Keeps b (of y.hooks).0 (heard (of w.hooks).1 (hook.modified val who shares) y.view) y.view.facts (w.log ++ m)) same_begun.2
-          (subst (λ (x : View). Keeps b (of y.hooks).0 (heard (of w.hooks).1 (hook.modified val who shares) x) x.facts (w.log ++ begun.2)) same_begun.1 all))
+          after b (hook.Modified val who shares) w y modified_called
+          (subst (λ (m : Log). Keeps b (of y.hooks).0 (heard (of w.hooks).1 (hook.Modified val who shares) y.view) y.view.facts (w.log ++ m)) same_begun.2
+          (subst (λ (x : View). Keeps b (of y.hooks).0 (heard (of w.hooks).1 (hook.Modified val who shares) x) x.facts (w.log ++ begun.2)) same_begun.1 all))
 
       pub modified_tied : TiedIn w → TiedIn y
       modified_tied t =
           let flat : IsFlat (log.started who shares val.tokens val.shares (value_cut_of val.tokens val.shares shares)) = record { stays = λ es. refl; rises = λ m. refl } in
           let now : Ties begun.0 (w.log ++ begun.2) =
           tied_flat p.operator w.log val.operator (log.started who shares val.tokens val.shares (value_cut_of val.tokens val.shares shares)) (periods_of begun.0.rewards p.operator) (purse_of begun.0.purses p.operator).current flat t in
-          after_ties (hook.modified val who shares) w y modified_called
+          after_ties (hook.Modified val who shares) w y modified_called
           (subst (λ (m : Log). Ties (of y.hooks).0 (w.log ++ m)) same_begun.2 (subst (λ (c : Shared). Ties c (w.log ++ begun.2)) same_begun.0 now))
 
-    module _ (val : Validator) (w y : World Staked H) (e : call told (hook.created val) w ≡ Ok y) where
-      created_called : IsCalled (hook.created val) w y
-      created_called = called (hook.created val) w y e
+    module _ (val : Validator) (w y : World Staked H) (e : call told (hook.Created val) w ≡ Ok y) where
+      created_called : IsCalled (hook.Created val) w y
+      created_called = called (hook.Created val) w y e
 
       same_made : (records_made val (of w.hooks).0 ≡ (of y.hooks).0) × (w.view ≡ y.view) × ((val.operator, log.made) ∷ [] ≡ created_called.more)
       same_made = same_told (records_made val (of w.hooks).0) (of y.hooks).0 w.view y.view ((val.operator, log.made) ∷ []) created_called.more created_called.given
 
       pub created_holds : HoldsIn 0 w → HoldsIn 0 y
       created_holds h =
-          after 0 (hook.created val) w y created_called
-          (subst (λ (m : Log). Keeps 0 (of y.hooks).0 (heard (of w.hooks).1 (hook.created val) y.view) y.view.facts (w.log ++ m)) same_made.2
-          (subst (λ (x : View). Keeps 0 (of y.hooks).0 (heard (of w.hooks).1 (hook.created val) x) x.facts (w.log ++ (val.operator, log.made) ∷ [])) same_made.1
+          after 0 (hook.Created val) w y created_called
+          (subst (λ (m : Log). Keeps 0 (of y.hooks).0 (heard (of w.hooks).1 (hook.Created val) y.view) y.view.facts (w.log ++ m)) same_made.2
+          (subst (λ (x : View). Keeps 0 (of y.hooks).0 (heard (of w.hooks).1 (hook.Created val) x) x.facts (w.log ++ (val.operator, log.made) ∷ [])) same_made.1
           (holds_made p v t0 n0 base earlier 0 (of w.hooks).1 w.view.facts w.log h val.operator refl)))
 
       -- its ratio is tied, or that of the pair's as before
       pub created_tied : (same_addr p.operator val.operator ≡ false → TiedIn w) → TiedIn y
       created_tied t =
-          after_ties (hook.created val) w y created_called
+          after_ties (hook.Created val) w y created_called
           (subst (λ (m : Log). Ties (of y.hooks).0 (w.log ++ m)) same_made.2
           (subst (λ (c : Shared). Ties c (w.log ++ (val.operator, log.made) ∷ [])) same_made.0 (by (same_addr p.operator val.operator) refl)))
         where
@@ -375,25 +375,25 @@ module _ (p : Pair) (v : Option Validator) (t0 : Tracked) (n0 : ℕ) (base : Log
               (ap (λ (o : Option Purse). (unwrap_or o no_purse).current) (put_elsewhere val.operator p.operator no_purse d.purses.purses apart))
               (tied_elsewhere p.operator w.log val.operator log.made (periods_of d.rewards p.operator) (purse_of d.purses p.operator).current other (t apart))
 
-    module _ (val : Validator) (w y : World Staked H) (e : call told (hook.removed val) w ≡ Ok y) where
-      removed_called : IsCalled (hook.removed val) w y
-      removed_called = called (hook.removed val) w y e
+    module _ (val : Validator) (w y : World Staked H) (e : call told (hook.Removed val) w ≡ Ok y) where
+      removed_called : IsCalled (hook.Removed val) w y
+      removed_called = called (hook.Removed val) w y e
 
       pub removed_holds : (b : ℕ) → HoldsIn b w → HoldsIn b y
       removed_holds b h =
-          after b (hook.removed val) w y removed_called
+          after b (hook.Removed val) w y removed_called
           (removal_holds val (of w.hooks).0 w.view (of y.hooks).0 y.view removed_called.more w.log b (of w.hooks).1 removed_called.given h)
 
-    module _ (val : Validator) (w y : World Staked H) (e : call told (hook.bonded val) w ≡ Ok y) where
-      bonded_called : IsCalled (hook.bonded val) w y
-      bonded_called = called (hook.bonded val) w y e
+    module _ (val : Validator) (w y : World Staked H) (e : call told (hook.Bonded val) w ≡ Ok y) where
+      bonded_called : IsCalled (hook.Bonded val) w y
+      bonded_called = called (hook.Bonded val) w y e
 
       same_bonded : ((of w.hooks).0 ≡ (of y.hooks).0) × (w.view ≡ y.view) × ([] ≡ bonded_called.more)
       same_bonded = same_told (of w.hooks).0 (of y.hooks).0 w.view y.view [] bonded_called.more bonded_called.given
 
       pub bonded_holds : (b : ℕ) → HoldsIn b w → HoldsIn b y
       bonded_holds b h =
-          after b (hook.bonded val) w y bonded_called
+          after b (hook.Bonded val) w y bonded_called
           (subst (λ (m : Log). Keeps b (of y.hooks).0 (of w.hooks).1 y.view.facts (w.log ++ m)) same_bonded.2
           (subst (λ (l : Log). Keeps b (of y.hooks).0 (of w.hooks).1 y.view.facts l) (sym (append-nil w.log))
           (subst (λ (x : View). Keeps b (of y.hooks).0 (of w.hooks).1 x.facts w.log) same_bonded.1 h)))

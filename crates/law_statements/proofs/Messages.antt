@@ -12,9 +12,9 @@ use Rattle.base_roles.specs.declared.{messages.CreateValidator.CreateValidator, 
 use Rattle.base_roles.specs.declared.refusal.Refusal.TheVariants.{NoValidator, WrongDenom, NonPositive, NoDelegation, ValidatorExists, ConsKeyExists, CommissionRange, CommissionBelowMinimum, MinSelfNotPositive, SelfBelowMinimum, SelfRedelegation, Transitive, RedelegationsFull, TinyRedelegation, UnbondingsFull, RateInvalid, Jailed, NoEntry, CancelTooMuch, Overflow}
 use Rattle.base_roles.specs.{Entries.at, Flow.{◌>>=◌}, Log.Log, Orders.same_addr, Pair.{and_then, given_with}}
 use Rattle.base_roles.specs.Staked.{Staked, delegation, is_bonded, validator_at, validator_by_cons}
-use Rattle.base_roles.specs.World.{View, Hook, Told, World, exceeds, gives, over_view, sent}
+use Rattle.base_roles.specs.{World.{View, Told, World, exceeds, gives, over_view, sent}, declared.calls.Hook.Hook}
 use Rattle.base_roles.specs.declared.facts.Fact.TheVariants as fact
-use Rattle.base_roles.specs.World as hook
+use Rattle.base_roles.specs.declared.calls.Hook.TheVariants as hook
 use Rattle.rule_modules.specs.{Amounts.bond_coins, Chain.{State, Stakes, staked_in, with_staked}}
 use Rattle.rule_modules.specs.Delegating.{Origin, delegated, delegated_by, is_wrong, pool, shares_given, wallet}
 use Rattle.rule_modules.specs.Distribution.{Shared, reward_renewed, reward_withdrawn, started}
@@ -38,13 +38,13 @@ use Rattle.law_statements.proofs.Staking.{delegated_goes, gone_elsewhere, stored
 -- ---- the chain's hooks, which a recorder hears, with the window behind
 
 window_gives : (i : Window) (h : Hook) (u : View) → (j : Window) × (window_told i h u ≡ gives j u [])
-window_gives i (hook.created x) u = (i, refl)
-window_gives i (hook.removed x) u = (i, refl)
-window_gives i (hook.bonded x) u = (signing_started u.ctx.height x.cons i, refl)
-window_gives i (hook.starting x who) u = (i, refl)
-window_gives i (hook.modifying x who shares) u = (i, refl)
-window_gives i (hook.modified x who shares) u = (i, refl)
-window_gives i (hook.slashing x fraction) u = (i, refl)
+window_gives i (hook.Created x) u = (i, refl)
+window_gives i (hook.Removed x) u = (i, refl)
+window_gives i (hook.Bonded x) u = (signing_started u.ctx.height x.cons i, refl)
+window_gives i (hook.Starting x who) u = (i, refl)
+window_gives i (hook.Modifying x who shares) u = (i, refl)
+window_gives i (hook.Modified x who shares) u = (i, refl)
+window_gives i (hook.Slashing x fraction) u = (i, refl)
 
 same_given : {X : Type 0} (x y : X) (u w : View) (k m : Log) → Path (Told X) (gives x u k) (gives y w m) → (x ≡ y) × (u ≡ w) × (k ≡ m)
 same_given x y u w k m h = (cc, cc, cc)
@@ -210,4 +210,4 @@ module _ (p : Pair) (v : Option Validator) (t0 : Tracked) (n0 : ℕ) (base : Log
             let begun = holds_begun p v t0 n0 base earlier 0 w.hooks.0.1 (started x who shares y.1 y.2).1.facts (w.log ++ y.3) told_start x.operator who shares x.tokens x.shares stake (omega arith) in
             subst (λ (r : Noted). Holds p v t0 n0 base earlier 0 r (started x who shares y.1 y.2).1.facts (w.log ++ (y.3 ++ (started x who shares y.1 y.2).2)))
             (sym (ap (λ (o : Option Validator). restart_heard heard o (delegation w.mine.staked who operator) who (started x who shares y.1 y.2).1 w.hooks.0.1) is ∙ ap (λ (o : Option ℕ). restart_heard heard (Some x) o who (started x who shares y.1 y.2).1 w.hooks.0.1) has))
-            (subst (λ (l : Log). Holds p v t0 n0 base earlier 0 (heard w.hooks.0.1 (hook.modified x who shares) (started x who shares y.1 y.2).1) (started x who shares y.1 y.2).1.facts l) (append_assoc w.log y.3 (started x who shares y.1 y.2).2) begun)
+            (subst (λ (l : Log). Holds p v t0 n0 base earlier 0 (heard w.hooks.0.1 (hook.Modified x who shares) (started x who shares y.1 y.2).1) (started x who shares y.1 y.2).1.facts l) (append_assoc w.log y.3 (started x who shares y.1 y.2).2) begun)

@@ -11,10 +11,11 @@ use Rattle.base_roles.specs.declared.entities.{RedelegationEntry.RedelegationEnt
 use Rattle.base_roles.specs.declared.{facts.Fact.Fact, messages.{Evidence.Evidence, Vote.Vote}}
 use Rattle.base_roles.specs.{Entries.{at, with, without}, Flow.{◌>>=◌}, Lent.jail_told, Log.Log, Orders.same_addr}
 use Rattle.base_roles.specs.Staked.{Staked, delegation, is_unbonded, put_validator, validator_at, validator_by_cons}
-use Rattle.base_roles.specs.World.{View, Hook, Told, World, burnt, call, logged, noted, over_mine, over_view}
+use Rattle.base_roles.specs.World.{View, Told, World, burnt, call, logged, noted, over_mine, over_view}
+use Rattle.base_roles.specs.declared.calls.Hook.{Hook}
 use Rattle.base_roles.specs.declared.facts.Fact.TheVariants as fact
 use Rattle.base_roles.specs.Log as log
-use Rattle.base_roles.specs.World as hook
+use Rattle.base_roles.specs.declared.calls.Hook.TheVariants as hook
 use Rattle.rule_modules.specs.{Chain.{Stakes, staked_in}, Distribution.{Shared, slash_recorded}}
 use Rattle.rule_modules.specs.EntrySlashes.{burned_at_target, entry_hit, followed, is_hit, part_of, plain_following, shares_hit, sources_slashed, targets_slashed}
 use Rattle.rule_modules.specs.{Evidence.{equivocation_handled, jailed_if_not, window_bans}, Periods.periods_of}
@@ -213,9 +214,9 @@ module _ (p : Pair) (v : Option Validator) (t0 : Tracked) (n0 : ℕ) (base : Log
       positive : (n : ℕ) → (n == 0) ≡ false → 0 < n
       positive n h = grind (arith, nat_tests)
 
-      hit : (x : World Staked H) → call told (hook.slashing val fraction) w ≡ Ok x → 0 < val.tokens → Runs 0 (behind x) × ((behind x).mine ≡ w.mine)
+      hit : (x : World Staked H) → call told (hook.Slashing val fraction) w ≡ Ok x → 0 < val.tokens → Runs 0 (behind x) × ((behind x).mine ≡ w.mine)
       hit x h some =
-          let k : IsCalled p v t0 n0 base earlier told of are (hook.slashing val fraction) w x = called p v t0 n0 base earlier told of are (hook.slashing val fraction) w x h in
+          let k : IsCalled p v t0 n0 base earlier told of are (hook.Slashing val fraction) w x = called p v t0 n0 base earlier told of are (hook.Slashing val fraction) w x h in
           let parts = recorded_parts val fraction (of w.hooks).0 w.view ((of x.hooks).0, x.view, k.more) (rule_told (slash_recorded val fraction (of w.hooks).0 w.view) ((of x.hooks).0, x.view, k.more) k.given) in
           let z : ℕ × Shared × View × Log = parts.0 in
           let shared : event_put val fraction z ≡ (of x.hooks).0 = ap (λ (t : Shared × View × Log). t.0) parts.2 in
@@ -249,11 +250,11 @@ module _ (p : Pair) (v : Option Validator) (t0 : Tracked) (n0 : ℕ) (base : Log
           Ties : Shared → Log → Type 0
           Ties c l = Tied p v t0 n0 base earlier c l
 
-      by : (q : Bool) → (val.tokens == 0) ≡ q → (if q then Ok w else (call told (hook.slashing val fraction) w >>= λ x. Ok (over_view (noted (fact.Slashed val.operator fraction burn)) (logged val.operator (log.slashed burn val.tokens fraction) x)))) ≡ Ok y
+      by : (q : Bool) → (val.tokens == 0) ≡ q → (if q then Ok w else (call told (hook.Slashing val fraction) w >>= λ x. Ok (over_view (noted (fact.Slashed val.operator fraction burn)) (logged val.operator (log.slashed burn val.tokens fraction) x)))) ≡ Ok y
           → Runs 0 y × (y.mine ≡ w.mine)
       by true is h = subst (λ (x : World Staked H). Runs 0 x × (x.mine ≡ w.mine)) (same_ok w y h) (g, refl)
       by false is h =
-          let one = step_parts (call told (hook.slashing val fraction) w) (λ x. Ok (behind x)) y h in
+          let one = step_parts (call told (hook.Slashing val fraction) w) (λ x. Ok (behind x)) y h in
           subst (λ (x : World Staked H). Runs 0 x × (x.mine ≡ w.mine)) (same_ok (behind one.0) y one.2) (hit one.0 one.1 (positive val.tokens is))
 
   rest_fits : (operator : List ℕ) (amount : ℕ) (w : World Staked H) (y : ℕ × World Staked H) → rest_slashed told (validator_at w.mine operator) amount w ≡ Ok y → Fits w → Keeps 0 y.1

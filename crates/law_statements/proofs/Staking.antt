@@ -16,10 +16,11 @@ use Rattle.base_roles.specs.declared.refusal.Refusal.{Refusal, TheVariants.{Insu
 use Rattle.base_roles.specs.{Entries.{at, with, without}, Flow.{◌>>=◌, each, stopping}, Holdings.is_short}
 use Rattle.base_roles.specs.{Items.no_purse, Log.Log, Orders.same_addr}
 use Rattle.base_roles.specs.Staked.{Staked, delegation, is_unbonded, put_validator, validator_at}
-use Rattle.base_roles.specs.World.{View, Hook, Told, World, call, gives, logged, noted, over_mine, over_view, sent}
+use Rattle.base_roles.specs.World.{View, Told, World, call, gives, logged, noted, over_mine, over_view, sent}
+use Rattle.base_roles.specs.declared.calls.Hook.{Hook}
 use Rattle.base_roles.specs.declared.facts.Fact.TheVariants as fact
 use Rattle.base_roles.specs.Log as log
-use Rattle.base_roles.specs.World as hook
+use Rattle.base_roles.specs.declared.calls.Hook.TheVariants as hook
 use Rattle.rule_modules.specs.Amounts.{bond_coins}
 use Rattle.rule_modules.specs.BondedSet.{difference_moved, joined_set, joining_of, leaving_of, left_set, matured, set_updated, tokens_of, validators_matured}
 use Rattle.rule_modules.specs.Delegating.{Origin, delegated, hook_before, paid_in, pool, shares_given, wallet}
@@ -126,27 +127,27 @@ module _ (p : Pair) (v : Option Validator) (t0 : Tracked) (n0 : ℕ) (base : Log
 
   opened : (val : Validator) (who : List ℕ) (held : Option ℕ) (w y : World Staked H) → Stands val.operator w → call told (hook_before val who held) w ≡ Ok y → Runs 0 w → HasOpened w y
   opened val who None w y there e g =
-      let k = called p v t0 n0 base earlier told of are (hook.starting val who) w y e in
+      let k = called p v t0 n0 base earlier told of are (hook.Starting val who) w y e in
       record {
         b = 0;
         once = omega arith;
-        goes = after_call 0 0 (hook.starting val who) w y k (starting_holds p v t0 n0 base earlier told of are val who w y e 0 (may_end 0 val w there g) g.holds) (starting_tied p v t0 n0 base earlier told of are val who w y e) g;
+        goes = after_call 0 0 (hook.Starting val who) w y k (starting_holds p v t0 n0 base earlier told of are val who w y e 0 (may_end 0 val w there g) g.holds) (starting_tied p v t0 n0 base earlier told of are val who w y e) g;
         mine = k.mine;
       }
   opened val who (Some shares) w y there e g =
-      let k = called p v t0 n0 base earlier told of are (hook.modifying val who shares) w y e in
+      let k = called p v t0 n0 base earlier told of are (hook.Modifying val who shares) w y e in
       record {
         b = touch p v t0 n0 base earlier val.operator;
         once = touch_once val.operator;
-        goes = after_call 0 (touch p v t0 n0 base earlier val.operator) (hook.modifying val who shares) w y k
+        goes = after_call 0 (touch p v t0 n0 base earlier val.operator) (hook.Modifying val who shares) w y k
             (modifying_holds p v t0 n0 base earlier told of are val who shares w y e (may_end 0 val w there g) g.holds) (modifying_tied p v t0 n0 base earlier told of are val who shares w y e) g;
         mine = k.mine;
       }
 
   -- the hook after it
-  closed_by : (b : ℕ) (val : Validator) (who : List ℕ) (shares : ℕ) (w y : World Staked H) → b ≤ 1 → call told (hook.modified val who shares) w ≡ Ok y → Runs b w → Runs b y
+  closed_by : (b : ℕ) (val : Validator) (who : List ℕ) (shares : ℕ) (w y : World Staked H) → b ≤ 1 → call told (hook.Modified val who shares) w ≡ Ok y → Runs b w → Runs b y
   closed_by b val who shares w y once e g =
-      after_call b b (hook.modified val who shares) w y (called p v t0 n0 base earlier told of are (hook.modified val who shares) w y e)
+      after_call b b (hook.Modified val who shares) w y (called p v t0 n0 base earlier told of are (hook.Modified val who shares) w y e)
       (modified_holds p v t0 n0 base earlier told of are val who shares w y e b once g.holds) (modified_tied p v t0 n0 base earlier told of are val who shares w y e) g
 
   -- ---- delegating
@@ -168,23 +169,23 @@ module _ (p : Pair) (v : Option Validator) (t0 : Tracked) (n0 : ℕ) (base : Log
   delegated_goes val who amount origin w x there e g =
       let held : Option ℕ = delegation w.mine who val.operator in
       let one : (issued : ℕ) × (shares_given val amount ≡ Ok issued)
-      × ((stopping Overflow (call told (hook_before val who held) w) >>= λ w1. paid_in origin who val.status amount w1.view >>= λ u. stopping Overflow (call told (hook.modified (grown issued) who (shares issued)) (put issued u w1)) >>= λ w3. Ok (issued, w3)) ≡ Ok x) =
+      × ((stopping Overflow (call told (hook_before val who held) w) >>= λ w1. paid_in origin who val.status amount w1.view >>= λ u. stopping Overflow (call told (hook.Modified (grown issued) who (shares issued)) (put issued u w1)) >>= λ w3. Ok (issued, w3)) ≡ Ok x) =
       step_parts (shares_given val amount)
-      (λ issued. stopping Overflow (call told (hook_before val who held) w) >>= λ w1. paid_in origin who val.status amount w1.view >>= λ u. stopping Overflow (call told (hook.modified (grown issued) who (shares issued)) (put issued u w1)) >>= λ w3. Ok (issued, w3)) x e in
+      (λ issued. stopping Overflow (call told (hook_before val who held) w) >>= λ w1. paid_in origin who val.status amount w1.view >>= λ u. stopping Overflow (call told (hook.Modified (grown issued) who (shares issued)) (put issued u w1)) >>= λ w3. Ok (issued, w3)) x e in
       let issued : ℕ = one.0 in
       let two = step_parts (stopping Overflow (call told (hook_before val who held) w))
-      (λ w1. paid_in origin who val.status amount w1.view >>= λ u. stopping Overflow (call told (hook.modified (grown issued) who (shares issued)) (put issued u w1)) >>= λ w3. Ok (issued, w3)) x one.2 in
+      (λ w1. paid_in origin who val.status amount w1.view >>= λ u. stopping Overflow (call told (hook.Modified (grown issued) who (shares issued)) (put issued u w1)) >>= λ w3. Ok (issued, w3)) x one.2 in
       let w1 : World Staked H = two.0 in
-      let three = step_parts (paid_in origin who val.status amount w1.view) (λ u. stopping Overflow (call told (hook.modified (grown issued) who (shares issued)) (put issued u w1)) >>= λ w3. Ok (issued, w3)) x two.2 in
+      let three = step_parts (paid_in origin who val.status amount w1.view) (λ u. stopping Overflow (call told (hook.Modified (grown issued) who (shares issued)) (put issued u w1)) >>= λ w3. Ok (issued, w3)) x two.2 in
       let u : View = three.0 in
-      let four = step_parts (stopping Overflow (call told (hook.modified (grown issued) who (shares issued)) (put issued u w1))) (λ w3. Ok (issued, w3)) x three.2 in
+      let four = step_parts (stopping Overflow (call told (hook.Modified (grown issued) who (shares issued)) (put issued u w1))) (λ w3. Ok (issued, w3)) x three.2 in
       let w3 : World Staked H = four.0 in
       let o : HasOpened w w1 = opened val who held w w1 there (went_on Overflow (call told (hook_before val who held) w) w1 two.1) g in
       let stands : Stands val.operator w1 = ap (λ (s : Staked). is_some (validator_at s val.operator)) o.mine ∙ there in
       let paid : Runs o.b (over_view (λ y. u) w1) = paid_goes o.b origin who val.status amount u w1 three.1 o.goes in
       let set : Runs o.b (over_mine (put_validator (grown issued)) (over_view (λ y. u) w1)) = goes_put o.b (grown issued) (over_view (λ y. u) w1) stands paid in
       let both : Runs o.b (put issued u w1) = record { ascend = set.ascend; ties = set.ties; holds = set.holds } in
-      let last : Runs o.b w3 = closed_by o.b (grown issued) who (shares issued) (put issued u w1) w3 o.once (went_on Overflow (call told (hook.modified (grown issued) who (shares issued)) (put issued u w1)) w3 four.1) both in
+      let last : Runs o.b w3 = closed_by o.b (grown issued) who (shares issued) (put issued u w1) w3 o.once (went_on Overflow (call told (hook.Modified (grown issued) who (shares issued)) (put issued u w1)) w3 four.1) both in
       subst (λ (y : ℕ × World Staked H). Runs 0 y.1) (same_ok (issued, w3) x four.2) (goes_less o.b w3 last)
     where
       grown : ℕ → Validator
@@ -199,13 +200,13 @@ module _ (p : Pair) (v : Option Validator) (t0 : Tracked) (n0 : ℕ) (base : Log
   -- ---- a validator goes
 
   -- what a removed validator leaves of another's ratio
-  removed_ties : (val : Validator) (w y : World Staked H) → call told (hook.removed val) w ≡ Ok y → same_addr p.operator val.operator ≡ false → Ties w → Ties y
+  removed_ties : (val : Validator) (w y : World Staked H) → call told (hook.Removed val) w ≡ Ok y → same_addr p.operator val.operator ≡ false → Ties w → Ties y
   removed_ties val w y e apart t =
       subst (λ (l : Log). IsTied p.operator (periods_of (of y.hooks).0.rewards p.operator) (purse_of (of y.hooks).0.purses p.operator).current l) (sym k.log)
       (by (closed val.operator d.purses) refl k.given)
     where
-      k : IsCalled p v t0 n0 base earlier told of are (hook.removed val) w y
-      k = called p v t0 n0 base earlier told of are (hook.removed val) w y e
+      k : IsCalled p v t0 n0 base earlier told of are (hook.Removed val) w y
+      k = called p v t0 n0 base earlier told of are (hook.Removed val) w y e
 
       d : Shared
       d = (of w.hooks).0
@@ -234,16 +235,16 @@ module _ (p : Pair) (v : Option Validator) (t0 : Tracked) (n0 : ℕ) (base : Log
   gone_goes : (b : ℕ) (val : Validator) (w y : World Staked H) → validator_removed told val w ≡ Ok y → Runs b w → Runs b y
   gone_goes b val w y e g =
       let without_it : World Staked H = over_mine (without_validator val.operator) w in
-      let one = step_parts (call told (hook.removed val) without_it) (λ x. Ok (over_view (noted (fact.Removed val.operator)) x)) y e in
+      let one = step_parts (call told (hook.Removed val) without_it) (λ x. Ok (over_view (noted (fact.Removed val.operator)) x)) y e in
       let x : World Staked H = one.0 in
-      let k = called p v t0 n0 base earlier told of are (hook.removed val) without_it x one.1 in
+      let k = called p v t0 n0 base earlier told of are (hook.Removed val) without_it x one.1 in
       let ascend : IsStrictlySortedBy addr_cmp (keys_of x.mine.validators) =
       subst (λ (s : Staked). IsStrictlySortedBy addr_cmp (keys_of s.validators)) (sym k.mine) (ascend-taken addr_cmp (is_at (addr_cmp val.operator)) w.mine.validators g.ascend) in
       let holds : Keeps b x = removed_holds p v t0 n0 base earlier told of are val without_it x one.1 b g.holds in
       subst (Runs b) (same_ok (over_view (noted (fact.Removed val.operator)) x) y one.2)
       (goes_told b (fact.Removed val.operator) x (λ f. refl) (record { ascend = ascend; ties = ties x k one.1; holds = holds }))
     where
-      ties : (x : World Staked H) → IsCalled p v t0 n0 base earlier told of are (hook.removed val) (over_mine (without_validator val.operator) w) x → call told (hook.removed val) (over_mine (without_validator val.operator) w) ≡ Ok x → Stands p.operator x → Ties x
+      ties : (x : World Staked H) → IsCalled p v t0 n0 base earlier told of are (hook.Removed val) (over_mine (without_validator val.operator) w) x → call told (hook.Removed val) (over_mine (without_validator val.operator) w) ≡ Ok x → Stands p.operator x → Ties x
       ties x k h there = by (same_addr p.operator val.operator) refl (ap (λ (s : Staked). is_some (validator_at s p.operator)) (sym k.mine) ∙ there)
         where
           by : (q : Bool) → same_addr p.operator val.operator ≡ q → is_some (at addr_cmp (without addr_cmp w.mine.validators val.operator) p.operator) ≡ true → Ties x
@@ -266,26 +267,26 @@ module _ (p : Pair) (v : Option Validator) (t0 : Tracked) (n0 : ℕ) (base : Log
   standing_goes : (b : ℕ) (val : Validator) (who : List ℕ) (left : ℕ) (w y : World Staked H) → b ≤ 1 → left_standing told val who left w ≡ Ok y → Runs b w → Runs b y × (y.mine.validators ≡ w.mine.validators)
   standing_goes b val who left w y once e g = by (left == 0) e
     where
-      by : (q : Bool) → (if q then Ok (over_mine (without_shares who val.operator) w) else call told (hook.modified val who left) (over_mine (put_delegation who val.operator left) w)) ≡ Ok y → Runs b y × (y.mine.validators ≡ w.mine.validators)
+      by : (q : Bool) → (if q then Ok (over_mine (without_shares who val.operator) w) else call told (hook.Modified val who left) (over_mine (put_delegation who val.operator left) w)) ≡ Ok y → Runs b y × (y.mine.validators ≡ w.mine.validators)
       by true h =
           let same : over_mine (without_shares who val.operator) w ≡ y = same_ok (over_mine (without_shares who val.operator) w) y h in
           subst (λ (x : World Staked H). Runs b x × (x.mine.validators ≡ w.mine.validators)) same (record { ascend = g.ascend; ties = g.ties; holds = g.holds }, refl)
       by false h =
           let put : World Staked H = over_mine (put_delegation who val.operator left) w in
-          let k = called p v t0 n0 base earlier told of are (hook.modified val who left) put y h in
+          let k = called p v t0 n0 base earlier told of are (hook.Modified val who left) put y h in
           (closed_by b val who left put y once h (record { ascend = g.ascend; ties = g.ties; holds = g.holds }), ap (λ (s : Staked). s.validators) k.mine)
 
   pub unbonded_goes : (val : Validator) (who : List ℕ) (held part : ℕ) (w : World Staked H) (x : ℕ × World Staked H) → Stands val.operator w → unbonded_shares told val who held part w ≡ Ok x → Runs 0 w → Runs 0 x.1
   unbonded_goes val who held part w x there e g =
-      let one = step_parts (call told (hook.modifying val who held) w)
+      let one = step_parts (call told (hook.Modifying val who held) w)
       (λ w1. left_standing told now who (held - part) (if falls then put_in_jail val w1 else w1) >>= λ w2. removed_if_empty told less (logged val.operator log.left (over_mine (put_validator less) w2)) >>= λ w3. Ok (out, w3)) x e in
       let w1 : World Staked H = one.0 in
       let two = step_parts (left_standing told now who (held - part) (if falls then put_in_jail val w1 else w1)) (λ w2. removed_if_empty told less (logged val.operator log.left (over_mine (put_validator less) w2)) >>= λ w3. Ok (out, w3)) x one.2 in
       let w2 : World Staked H = two.0 in
       let three = step_parts (removed_if_empty told less (logged val.operator log.left (over_mine (put_validator less) w2))) (λ w3. Ok (out, w3)) x two.2 in
       let w3 : World Staked H = three.0 in
-      let k = called p v t0 n0 base earlier told of are (hook.modifying val who held) w w1 one.1 in
-      let first : Runs b w1 = after_call 0 b (hook.modifying val who held) w w1 k
+      let k = called p v t0 n0 base earlier told of are (hook.Modifying val who held) w w1 one.1 in
+      let first : Runs b w1 = after_call 0 b (hook.Modifying val who held) w w1 k
       (modifying_holds p v t0 n0 base earlier told of are val who held w w1 one.1 (may_end 0 val w there g) g.holds) (modifying_tied p v t0 n0 base earlier told of are val who held w w1 one.1) g in
       let stands : Stands val.operator w1 = ap (λ (s : Staked). is_some (validator_at s val.operator)) k.mine ∙ there in
       let jailed : Runs b (if falls then put_in_jail val w1 else w1) × Stands val.operator (if falls then put_in_jail val w1 else w1) = jails falls w1 stands first in
@@ -352,8 +353,8 @@ module _ (p : Pair) (v : Option Validator) (t0 : Tracked) (n0 : ℕ) (base : Log
         by : (q : Bool) → (if q then validator_removed told kept_less y else Ok y) ≡ Ok z → P z.mine.validators
         by true g =
             let less : World Staked H = over_mine (without_validator val.operator) y in
-            let one = step_parts (call told (hook.removed kept_less) less) (λ t. Ok (over_view (noted (fact.Removed val.operator)) t)) z g in
-            let k = called p v t0 n0 base earlier told of are (hook.removed kept_less) less one.0 one.1 in
+            let one = step_parts (call told (hook.Removed kept_less) less) (λ t. Ok (over_view (noted (fact.Removed val.operator)) t)) z g in
+            let k = called p v t0 n0 base earlier told of are (hook.Removed kept_less) less one.0 one.1 in
             subst (λ (t : World Staked H). P t.mine.validators) (same_ok (over_view (noted (fact.Removed val.operator)) one.0) z one.2)
             (subst (λ (s : Staked). P s.validators) (sym k.mine) (gone y.mine.validators r))
         by false g = subst (λ (t : World Staked H). P t.mine.validators) (same_ok y z g) r
@@ -367,20 +368,20 @@ module _ (p : Pair) (v : Option Validator) (t0 : Tracked) (n0 : ℕ) (base : Log
         with_it : World Staked H
         with_it = over_mine (put_delegation who val.operator (held - part)) y
 
-        by : (q : Bool) → (if q then Ok without_it else call told (hook.modified kept_now who (held - part)) with_it) ≡ Ok z → z.mine.validators ≡ y.mine.validators
+        by : (q : Bool) → (if q then Ok without_it else call told (hook.Modified kept_now who (held - part)) with_it) ≡ Ok z → z.mine.validators ≡ y.mine.validators
         by true h = ap (λ (t : World Staked H). t.mine.validators) (sym (same_ok without_it z h))
-        by false h = ap (λ (s : Staked). s.validators) (called p v t0 n0 base earlier told of are (hook.modified kept_now who (held - part)) with_it z h).mine
+        by false h = ap (λ (s : Staked). s.validators) (called p v t0 n0 base earlier told of are (hook.Modified kept_now who (held - part)) with_it z h).mine
 
     pub unbonded_kept : unbonded_shares told val who held part w ≡ Ok x → P w.mine.validators → P x.1.mine.validators
     unbonded_kept e r =
-        let one = step_parts (call told (hook.modifying val who held) w)
+        let one = step_parts (call told (hook.Modifying val who held) w)
         (λ w1. left_standing told kept_now who (held - part) (if kept_falls then put_in_jail val w1 else w1) >>= λ w2. removed_if_empty told kept_less (logged val.operator log.left (over_mine (put_validator kept_less) w2)) >>= λ w3. Ok (kept_out, w3)) x e in
         let w1 : World Staked H = one.0 in
         let jailed : World Staked H = (if kept_falls then put_in_jail val w1 else w1) in
         let two = step_parts (left_standing told kept_now who (held - part) jailed) (λ w2. removed_if_empty told kept_less (logged val.operator log.left (over_mine (put_validator kept_less) w2)) >>= λ w3. Ok (kept_out, w3)) x one.2 in
         let w2 : World Staked H = two.0 in
         let three = step_parts (removed_if_empty told kept_less (logged val.operator log.left (over_mine (put_validator kept_less) w2))) (λ w3. Ok (kept_out, w3)) x two.2 in
-        let k = called p v t0 n0 base earlier told of are (hook.modifying val who held) w w1 one.1 in
+        let k = called p v t0 n0 base earlier told of are (hook.Modifying val who held) w w1 one.1 in
         let first : P w1.mine.validators = subst (λ (s : Staked). P s.validators) (sym k.mine) r in
         let second : P w2.mine.validators = subst P (sym (standing_kept jailed w2 two.1)) (jail_kept kept_falls w1 first) in
         let third : P (with addr_cmp w2.mine.validators val.operator kept_less) = put kept_less w2.mine.validators refl (lowered val.tokens kept_out) second in
@@ -392,10 +393,10 @@ module _ (p : Pair) (v : Option Validator) (t0 : Tracked) (n0 : ℕ) (base : Log
 
   -- ---- a new validator
 
-  pub stored_goes : (val : Validator) (w y : World Staked H) → call told (hook.created val) (over_mine (put_validator val) w) ≡ Ok y → Runs 0 w → Runs 0 y × Stands val.operator y
+  pub stored_goes : (val : Validator) (w y : World Staked H) → call told (hook.Created val) (over_mine (put_validator val) w) ≡ Ok y → Runs 0 w → Runs 0 y × Stands val.operator y
   stored_goes val w y e g =
       let put : World Staked H = over_mine (put_validator val) w in
-      let k = called p v t0 n0 base earlier told of are (hook.created val) put y e in
+      let k = called p v t0 n0 base earlier told of are (hook.Created val) put y e in
       let back : Stands p.operator y → is_some (at addr_cmp (with addr_cmp w.mine.validators val.operator val) p.operator) ≡ true = λ there. ap (λ (s : Staked). is_some (validator_at s p.operator)) (sym k.mine) ∙ there in (
         record {
           ascend = subst (λ (s : Staked). IsStrictlySortedBy addr_cmp (keys_of s.validators)) (sym k.mine) (ascend-put addr_cmp nat_list_cmp_total w.mine.validators val.operator val g.ascend);
@@ -445,7 +446,7 @@ module _ (p : Pair) (v : Option Validator) (t0 : Tracked) (n0 : ℕ) (base : Log
       by : (q : Bool) → (if q then validator_removed told val w else Ok w) ≡ Ok y → Keeps 0 y
       by true g =
           let without_it : World Staked H = over_mine (without_validator val.operator) w in
-          let one = step_parts (call told (hook.removed val) without_it) (λ x. Ok (over_view (noted (fact.Removed val.operator)) x)) y g in
+          let one = step_parts (call told (hook.Removed val) without_it) (λ x. Ok (over_view (noted (fact.Removed val.operator)) x)) y g in
           let x : World Staked H = one.0 in
           subst (Keeps 0) (same_ok (over_view (noted (fact.Removed val.operator)) x) y one.2)
           (holds_told p v t0 n0 base earlier 0 (of x.hooks).1 x.view.facts x.log (fact.Removed val.operator) (λ f. refl) (removed_holds p v t0 n0 base earlier told of are val without_it x one.1 0 h))

@@ -8,9 +8,10 @@ use Rattle.base_messages.specs.declared.genesis.GenesisValidator.{GenesisValidat
 use Rattle.base_roles.specs.declared.{entities.Validator.Validator, facts.Fact.Fact, refusal.Refusal.Refusal}
 use Rattle.base_roles.specs.declared.refusal.Refusal.TheVariants.{NoValidator, Overflow}
 use Rattle.base_roles.specs.{Flow.{◌>>=◌, each, or_stop, stopping}, Log.Log, Pair.{and_then, given_with}}
-use Rattle.base_roles.specs.{Staked.{Staked, delegation, validator_at}, World.{View, Hook, Told, World, call, hooked}}
+use Rattle.base_roles.specs.{Staked.{Staked, delegation, validator_at}, World.{View, Told, World, call, hooked}}
+use Rattle.base_roles.specs.declared.calls.Hook.{Hook}
 use Rattle.base_roles.specs.Log as log
-use Rattle.base_roles.specs.World as hook
+use Rattle.base_roles.specs.declared.calls.Hook.TheVariants as hook
 use Rattle.base_types.specs.declared.status.BondStatus.TheVariants.{Unbonded}
 use Rattle.rule_machine.specs.GenesisConditions.{creation_of}
 use Rattle.rule_machine.specs.GenesisState.{Start, chain_started, delegation_added, empty_over, ground_at_start, stake_added, validator_added, without_facts}
@@ -62,11 +63,11 @@ ended_unpaid : (val : Validator) (d : Shared) (u : View) → IfOk (ended val d u
 ended_unpaid val d u = on_bind (current_taken val d.purses) _ _ (λ t e. on_bind (period_ended t.0 (periods_of d.rewards val.operator)) _ _ (λ y m. refl))
 
 -- the hook before a delegation that is new
-starting_unpaid : (v : Validator) (who : List ℕ) (w : World Staked Hooks) → IsUnpaid w.log → IfOk (stopping Overflow (call chain_told (hook.starting v who) w)) (λ x. IsUnpaid x.log)
+starting_unpaid : (v : Validator) (who : List ℕ) (w : World Staked Hooks) → IsUnpaid w.log → IfOk (stopping Overflow (call chain_told (hook.Starting v who) w)) (λ x. IsUnpaid x.log)
 starting_unpaid v who w h = by (ended v w.hooks.0 w.view) (ended_unpaid v w.hooks.0 w.view)
   where
     by : (r : Result (ℕ × Shared × View × Log) Over) → IfOk r (λ z. IsUnpaid z.3)
-        → IfOk (stopping Overflow (hooked (and_then (told_of (left_by r)) (λ d u more. given_with d more (window_told w.hooks.1 (hook.starting v who) u))) w)) (λ x. IsUnpaid x.log)
+        → IfOk (stopping Overflow (hooked (and_then (told_of (left_by r)) (λ d u more. given_with d more (window_told w.hooks.1 (hook.Starting v who) u))) w)) (λ x. IsUnpaid x.log)
     by (Ok z) k = unpaid_more w.log (z.3 ++ []) h (ap payments_of (append-nil z.3) ∙ k)
     by (Err e) k = tt
 

@@ -1,7 +1,7 @@
 -- Addresses between quotes.
 use Rattle.std.proofs.Common.{◌≡◌, ◌∙◌, ap, sym, refl, arith, ℕ, ◌<◌, ◌≤◌, ◌+◌, ◌*◌, ◌%◌, ◌==◌, Bool, true, false, List, [], ◌∷◌, ◌++◌, Option, Some, None, if◌then◌else◌, slice_index, slice_set, map, unwrap_or, take, drop, subst, length, bit_or}
-use Rattle.std.specs.List.{list_all, range_with_len}
-use Rattle.std.proofs.lemmas.{Bool.Decides.nat_tests, Nat.{le_or_l, le_or_r}, List.FromFn.get_or-map-range_with_len}
+use Rattle.std.{specs.List.{list_all, range_with_len}, proofs.lemmas.{Bool.Decides.nat_tests, Nat.{le_or_l, le_or_r}}}
+use Rattle.std.proofs.lemmas.List.FromFn.{get_or-map-range_with_len}
 use Rattle.base_types.specs.{Address.{address_of, bytes_of, digit_of}, Maybe.{◌>>=◌}}
 use Rattle.base_types.proofs.DigitLemmas.{after, read_step}
 use Rattle.line_compact.specs.{Begins.IsSpelled, Pieces.stands_for_itself, declared.addresses.TheConstants.{HIGH, LOW}}

@@ -1,13 +1,12 @@
 -- What a text begins with, from what its pieces were matched with.
 use Rattle.std.proofs.Common.{◌≡◌, ◌∙◌, ap, ap₂, sym, refl, arith, IsUtf8, ℕ, suc, ◌^◌, ◌<◌, ◌≤◌, List, [], ◌∷◌, ◌++◌, Bool, true, false, ◌&&◌, Some, decimal, append-nil, append_assoc, nat_lt, subst, cond, lt-ltb, zero, ◌+◌, ◌%◌, ◌/◌, ◌==◌}
-use Rattle.std.specs.{Fmt.{digits, digits_onto, digit_glyph}, List.list_all}
-use Rattle.std.proofs.lemmas.{Bool.{and_parts, Decides.nat_tests}, List.Concat.flat_map-cons}
+use Rattle.std.{specs.{Fmt.{digits, digits_onto, digit_glyph}, List.list_all}, proofs.lemmas.Bool.and_parts}
+use Rattle.std.proofs.lemmas.{Bool.Decides.nat_tests, List.Concat.flat_map-cons}
 use Rattle.json.{specs.Print.{escape, escape_byte, quoted}, proofs.Printed.Strings.escape_byte_plain}
 use Rattle.json.proofs.Printed.Utf8.{are_ascii, IsUtf8-are_ascii}
 use Rattle.serde_json.specs.Data.{Data, boolean, number, unsigned, string, array, object, Items, no_items, item, Members, no_members, member, put}
-use Rattle.serde_json.specs.Read.{read, max_depth}
-use Rattle.serde_json.specs.Written.{compact_text, comma_if, items_text, members_text}
-use Rattle.line_compact.specs.{Begins.{Begins}, Pieces.stands_for_itself}
+use Rattle.serde_json.specs.{Read.{read, max_depth}, Written.{compact_text, comma_if, items_text, members_text}}
+use Rattle.line_compact.specs.{Begins.Begins, Pieces.stands_for_itself}
 use Rattle.line_compact.proofs.ReadLemmas.{AreRead, HaveRead, array_is_read, count_is_read, element_is_read, flag_is_read, is_deeper, member_is_read, no_element_is_read, no_member_is_read, object_is_read, read_whole, string_is_read}
 
 -- ---- a whole text

@@ -2,10 +2,11 @@
 use Rattle.std.proofs.Common.{◌≡◌, ◌∙◌, ap, sym, refl, arith, IsUtf8, ℕ, suc, ◌^◌, ◌<◌, ◌≤◌, List, [], ◌∷◌, ◌++◌, Bool, true, false, Some, option_and_then, option_map, decimal, append-nil}
 use Rattle.std.proofs.lemmas.{Fmt.IsAscii-decimal, Str.{IsUtf8-append, IsUtf8-from_ascii}}
 use Rattle.json.specs.{Lex.tokens, Print.quoted}
-use Rattle.json.specs.Json as json
 use Rattle.json.specs.Tree.{json_tokens, items_depth, members_depth, ItemsHaveNumbers, MembersHaveNumbers}
-use Rattle.json.proofs.Printed.{Decimals.IsNumber-decimal, Tokens.tokens-print, Utf8.{are_ascii, IsUtf8-are_ascii, IsUtf8-quoted}}
+use Rattle.json.proofs.Printed.{Decimals.IsNumber-decimal, Tokens.tokens-print}
+use Rattle.json.proofs.Printed.Utf8.{are_ascii, IsUtf8-are_ascii, IsUtf8-quoted}
 use Rattle.json.proofs.Printed.Trees.{value-json_tokens, ArePrintable-json_tokens}
+use Rattle.json.specs.Json as json
 use Rattle.serde_json.specs.Data.{Data, boolean, number, unsigned, string, array, object, Items, no_items, item, Members, no_members, member, put}
 use Rattle.serde_json.specs.Read.{read, max_depth, of_json, of_items, of_members}
 use Rattle.serde_json.specs.Written.{outline, items_outline, members_outline, compact_text, comma_if, items_text, members_text}

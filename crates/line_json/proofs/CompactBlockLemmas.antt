@@ -5,13 +5,15 @@ use Rattle.serde_json.specs.Data.{Data, Items, boolean, number, unsigned, string
 use Rattle.serde_json.specs.Find.{as_bool}
 use Rattle.base_types.specs.{Modules.user_from, Moment.moment_of}
 use Rattle.base_bech32.specs.declared.form.Form.{Form}
-use Rattle.base_coins.specs.{declared.coin.Coin.Coin, Coins.{Money}, Steps.{◌>>=◌}}
+use Rattle.base_coins.specs.{declared.coin.Coin.Coin, Coins.Money, Steps.{◌>>=◌}}
 use Rattle.base_roles.specs.declared.messages.{Evidence.Evidence, Vote.Vote}
 use Rattle.base_messages.specs.declared.{message.Msg.Msg, block.{Block.Block, Tx.Tx}}
-use Rattle.line_compact.{specs.Begins.{Begins, IsSpelled}, proofs.BeginLemmas.{deeper, no_more_members, object_begins, one_more_member, string_begins, whole_is_read}}
+use Rattle.line_compact.specs.Begins.{Begins, IsSpelled}
+use Rattle.line_compact.proofs.BeginLemmas.{deeper, no_more_members, object_begins, one_more_member, string_begins, whole_is_read}
 use Rattle.line_json.specs.Addresses.{account_prefix, bytes_in, cons_in, cons_prefix, user_in}
-use Rattle.line_json.specs.Block.{block_of, block_of_tree, evidence_of, tx_of, vote_of}
-use Rattle.line_json.specs.{Coin.{coin_of, coins_at}, Compact.{IsCompact, IsCompactList, IsMoneyOf}, Members.{number_in, spelled_by}, Messages.message_of, Nested.each_element}
+use Rattle.line_json.specs.{Block.{block_of, block_of_tree, evidence_of, tx_of, vote_of}, Coin.{coin_of, coins_at}}
+use Rattle.line_json.specs.{Compact.{IsCompact, IsCompactList, IsMoneyOf}, Members.{number_in, spelled_by}}
+use Rattle.line_json.specs.{Messages.message_of, Nested.each_element}
 use Rattle.line_json.proofs.BackLemmas.{member_read, read_three, read_four, read_five}
 use Rattle.line_json.proofs.{CompactLemmas.{coins_read, list_read, number_read, user_read}, ReadingLemmas.tree_found}
 

@@ -3,18 +3,17 @@ use Rattle.std.proofs.Common.{◌≡◌, ◌∙◌, ap, sym, subst, refl, arith,
 use Rattle.json.specs.Print.{escape_byte}
 use Rattle.serde_json.specs.Data.{Data, Items, no_items, item, number, unsigned, string, array, object, no_members, put}
 use Rattle.serde_json.specs.{Find.{get, as_array}, Written.compact_text}
-use Rattle.base_types.specs.declared.account.Account.{Account}
-use Rattle.base_types.specs.{Accounts.account_from, Denom.denom_of, Modules.user_from}
+use Rattle.base_types.specs.{declared.account.Account.Account, Accounts.account_from, Denom.denom_of, Modules.user_from}
 use Rattle.base_bech32.specs.declared.form.Form.{Form}
-use Rattle.base_coins.specs.{declared.coin.Coin.Coin, Coins.{Money}, Steps.{◌>>=◌}}
+use Rattle.base_coins.specs.{declared.coin.Coin.Coin, Coins.Money, Steps.{◌>>=◌}}
 use Rattle.base_messages.specs.declared.faults.LineFault.{LineFault, TheVariants.BadShape}
 use Rattle.line_compact.specs.Begins.{Begins, IsSpelled}
 use Rattle.line_compact.proofs.BeginLemmas.{HasElements, array_begins, no_more_elements, no_more_members, object_begins, one_more_element, one_more_member}
 use Rattle.line_json.specs.Addresses.{account_in, account_prefix, bytes_in}
 use Rattle.line_json.specs.Coin.{coin_at, coin_of, coins_at, money_of}
-use Rattle.line_json.specs.Compact.{IsCompact, IsCompactCoin, IsCompactList, IsMoneyOf}
-use Rattle.line_json.specs.Reading.{or_fault}
-use Rattle.line_json.specs.{Members.{amount_of, member_at, number_in, spelled_by}, Nested.{each_element, list_at, with_front}}
+use Rattle.line_json.specs.{Compact.{IsCompact, IsCompactCoin, IsCompactList, IsMoneyOf}, Reading.or_fault}
+use Rattle.line_json.specs.Members.{amount_of, member_at, number_in, spelled_by}
+use Rattle.line_json.specs.Nested.{each_element, list_at, with_front}
 use Rattle.line_json.proofs.{BackLemmas.{amount_is_read, member_read, next_is, read_two}, CoinLemmas.coins_below}
 
 -- ---- members

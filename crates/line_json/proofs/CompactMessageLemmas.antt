@@ -2,16 +2,17 @@
 use Rattle.std.proofs.Common.{◌≡◌, sym, refl, arith, ℕ, List, ◌++◌, Some, Ok, codes}
 use Rattle.json.specs.Print.{escape_byte}
 use Rattle.serde_json.specs.Data.{Data, Items, string, array, object, no_members, put}
-use Rattle.base_types.specs.declared.account.Account.{Account}
-use Rattle.base_types.specs.{Accounts.account_from, Denom.denom_of, Modules.user_from}
+use Rattle.base_types.specs.{declared.account.Account.Account, Accounts.account_from, Denom.denom_of, Modules.user_from}
 use Rattle.base_bech32.specs.declared.form.Form.{Form}
-use Rattle.base_coins.specs.{declared.coin.Coin.Coin, Coins.{Money}}
-use Rattle.base_messages.specs.declared.message.{BeginRedelegate.BeginRedelegate, Delegate.Delegate, Msg.Msg, Send.Send, Undelegate.Undelegate, WithdrawCommission.WithdrawCommission, WithdrawReward.WithdrawReward}
+use Rattle.base_coins.specs.{declared.coin.Coin.Coin, Coins.Money}
+use Rattle.base_messages.specs.declared.message.{BeginRedelegate.BeginRedelegate, Delegate.Delegate, Msg.Msg, Send.Send}
+use Rattle.base_messages.specs.declared.message.{Undelegate.Undelegate, WithdrawCommission.WithdrawCommission}
+use Rattle.base_messages.specs.declared.message.WithdrawReward.{WithdrawReward}
 use Rattle.base_messages.specs.declared.message.Msg.TheVariants as msg
-use Rattle.line_compact.{specs.Begins.{IsSpelled}, proofs.BeginLemmas.{deeper, no_more_members, object_begins, one_more_member, string_begins}}
+use Rattle.line_compact.specs.Begins.{IsSpelled}
+use Rattle.line_compact.proofs.BeginLemmas.{deeper, no_more_members, object_begins, one_more_member, string_begins}
 use Rattle.line_json.specs.Addresses.{account_in, account_prefix, bytes_in, operator_in, operator_prefix, user_in}
-use Rattle.line_json.specs.Coin.{coin_of, coins_at}
-use Rattle.line_json.specs.Compact.{IsCompact, IsCompactCoin, IsCompactList, IsMoneyOf}
+use Rattle.line_json.specs.{Coin.{coin_of, coins_at}, Compact.{IsCompact, IsCompactCoin, IsCompactList, IsMoneyOf}}
 use Rattle.line_json.specs.Members.{spelled_by}
 use Rattle.line_json.specs.Messages.{begin_redelegate_of, delegate_of, kind_of, message_of, send_of, undelegate_of, withdraw_commission_of, withdraw_reward_of}
 use Rattle.line_json.proofs.BackLemmas.{member_read, read_one, read_two, read_three, read_four}

@@ -3,7 +3,8 @@ use Rattle.std.proofs.Common.{◌≡◌, ◌∙◌, true, List, [], ◌∷◌, �
 use Rattle.base_types.specs.declared.status.BondStatus.TheVariants.{Bonded}
 use Rattle.base_roles.specs.{declared.{entities.Validator.Validator, faults.HookFault.HookFault}, Answers.Answers}
 use Rattle.base_roles.specs.{declared.facts.Fact.Fact, Hooks.{Tells, Stand, Ready, Lawful, Keeps}, Owing.Lists}
-use Rattle.base_roles.specs.{Staked.{Staked, validator_at, put_validator, lists_of}, World.{View, bonded}}
+use Rattle.base_roles.specs.{Staked.{Staked, validator_at, put_validator, lists_of}, World.View}
+use Rattle.base_roles.specs.declared.calls.Hook.TheVariants.{Bonded as bonded}
 use Rattle.base_roles.specs.declared.faults.HookFault.TheVariants as hook
 use Rattle.rule_modules.proofs.SoundLemmas.{to_points, found_itself}
 use Rattle.mod_staking.{specs.Calls.{IsSoundStake, with_if, changed_at}, proofs.ListLemmas.lists-put}

@@ -5,8 +5,8 @@ use Rattle.base_types.specs.declared.status.BondStatus.TheVariants.{Bonded}
 use Rattle.base_roles.specs.declared.{entities.Validator.Validator, faults.HookFault.HookFault}
 use Rattle.base_roles.specs.{Hooks.{Tells, Stand, Ready, Lawful, Keeps}, Log.Log}
 use Rattle.base_roles.specs.{Staked.{Staked, validator_at, put_validator, lists_of}, Flow.{◌>>=◌, each}}
-use Rattle.base_roles.specs.World.{View, World, Told, gives, exceeds, bonded, noted, hooked}
-use Rattle.base_roles.proofs.HookLemmas.{stand-noted}
+use Rattle.base_roles.specs.World.{View, World, Told, gives, exceeds, noted, hooked}
+use Rattle.base_roles.{specs.{declared.{calls.{Hook.{TheVariants.{Bonded as bonded}}}}}, proofs.HookLemmas.stand-noted}
 use Rattle.base_roles.specs.declared.faults.HookFault.TheVariants as hook
 use Rattle.base_roles.specs.declared.facts.Fact.TheVariants as fact
 use Rattle.rule_modules.specs.{Answers.Leaves, BondedSet.joined_set}

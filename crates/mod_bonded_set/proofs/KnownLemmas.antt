@@ -1,16 +1,20 @@
 -- Bonded validators that are known to be the set: nobody joins or leaves it.
-use Rattle.std.proofs.Common.{◌≡◌, ◌∙◌, ℕ, ◌+◌, ◌<◌, ◌≤◌, Bool, true, false, cond, List, [], ◌∷◌, Option, Some, None, refl, sym, ap, subst, arith, ◌&&◌, not, nat_lt, filter, ◌==◌, length, if◌then◌else◌, option_map, Ordering, Less, Equal, Greater, is_lt}
-use Rattle.std.specs.{List.{All, AllByRecursion, Sorted.IsStrictlySortedBy}, Map.{keys_of, values_of}, Ordering.ordering_reverse}
-use Rattle.std.proofs.lemmas.{Bool.Decides.nat_tests, List.Elements.{All-from_recursion, recursion_from_All}}
+use Rattle.std.proofs.Common.{◌≡◌, ◌∙◌, ℕ, ◌+◌, ◌<◌, ◌≤◌, Bool, true, false, cond, List, [], ◌∷◌, Option, Some, None, refl, sym, ap, subst, arith, ◌&&◌, not, nat_lt, filter, ◌==◌, length, if◌then◌else◌, option_map, Ordering, Less, Equal, Greater, is_lt, All}
+use Rattle.std.specs.{List.{AllByRecursion, Sorted.IsStrictlySortedBy}, Map.{keys_of, values_of}}
+use Rattle.std.{specs.Ordering.ordering_reverse, proofs.lemmas.Bool.Decides.nat_tests}
+use Rattle.std.proofs.lemmas.List.Elements.{All-from_recursion, recursion_from_All}
 use Rattle.base_types.specs.Orders.{addr_cmp}
-use Rattle.base_roles.specs.{declared.entities.Validator.Validator, Entries.at, Orders.same_addr, Staked.{Staked, is_bonded}}
+use Rattle.base_roles.specs.{declared.entities.Validator.Validator, Entries.at, Orders.same_addr}
+use Rattle.base_roles.specs.Staked.{Staked, is_bonded}
 use Rattle.rule_modules.specs.Amounts.{count_where}
 use Rattle.rule_modules.specs.BondedSet.{is_able, stands_before, rank_of, is_in_bonded_set, placed, by_power, joining_of, leaving_of}
-use Rattle.mod_staking.specs.{declared.places.Standing.Standing, Listed.Validators, Places.{standing, standing_cmp}, Registered.AreKeyed}
+use Rattle.mod_staking.specs.{declared.places.Standing.Standing, Listed.Validators, Places.{standing, standing_cmp}}
+use Rattle.mod_staking.specs.Registered.{AreKeyed}
 use Rattle.mod_staking.specs.KnownSet.{place, is_not_behind, is_within, AreBondedTo, IsKnown, AreSet}
 use Rattle.mod_staking.proofs.ListedLemmas.{standing_total, standing_exact}
 use Rattle.mod_bonded_set.specs.Sets.{TellsSet, IsUnmoved, unmoved_last, all_joined, all_left}
-use Rattle.mod_bonded_set.proofs.{SetLemmas.{before_is, not_itself}, OrderedLemmas.first_of_two, PassedLemmas.{standing_all, bonded_count}}
+use Rattle.mod_bonded_set.proofs.{SetLemmas.{before_is, not_itself}, OrderedLemmas.first_of_two}
+use Rattle.mod_bonded_set.proofs.PassedLemmas.{standing_all, bonded_count}
 
 -- ---- how many pass a test
 

@@ -2,7 +2,7 @@
 use Rattle.std.proofs.Common.{◌≡◌, List, [], ◌∷◌, refl, Ok}
 use Rattle.base_types.specs.declared.status.BondStatus.TheVariants.{Unbonding}
 use Rattle.base_roles.specs.{declared.entities.Validator.Validator, Log.Log, Staked.{Staked, put_validator}, Flow.each}
-use Rattle.base_roles.specs.World.{View, Hook, Told, noted}
+use Rattle.base_roles.specs.{World.{View, Told, noted}, declared.calls.Hook.Hook}
 use Rattle.base_roles.specs.declared.facts.Fact.TheVariants as fact
 use Rattle.rule_modules.specs.{BondedSet.left_set, Unbondings.completion}
 use Rattle.mod_staking.specs.Calls.{behind_log}

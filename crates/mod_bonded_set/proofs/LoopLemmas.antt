@@ -1,7 +1,6 @@
 -- Loops over lists of validators: what is left, what can be taken back, and steps.
 use Rattle.std.proofs.Common.{◌≡◌, ◌∙◌, ℕ, ◌+◌, ◌*◌, ◌<◌, ◌≤◌, Bool, true, false, cond, List, [], ◌∷◌, ◌++◌, length, get_or, drop, add-one, append-nil, append_assoc, refl, sym, ap, arith, filter, Result, Ok, Err, OnOk}
-use Rattle.std.proofs.Math.{Nat.{suc-mul, mul-le-mul, mul-le-mul_right}, Seq.drop-cons}
-use Rattle.std.specs.Prelude.{⊤}
+use Rattle.std.{proofs.Math.{Nat.{suc-mul, mul-le-mul, mul-le-mul_right}, Seq.drop-cons}, specs.Prelude.⊤}
 use Rattle.base_roles.specs.{declared.{bank.Ground.Ground, faults.HookFault.HookFault}, Ground.CanBeUndone}
 use Rattle.rule_modules.specs.Amounts.{count_where}
 use Rattle.mod_staking.specs.{Registered.Registered, Scenes.{RegisterGoesOn, GoesOn}}

@@ -8,7 +8,8 @@ use Rattle.base_types.specs.{declared.status.BondStatus.TheVariants.Unbonded, Or
 use Rattle.base_roles.specs.declared.{entities.Validator.Validator, faults.HookFault.HookFault}
 use Rattle.base_roles.specs.{Hooks.{after, Tells, Stand, Ready, Lawful, Keeps}, Log.Log, Orders.same_addr}
 use Rattle.base_roles.specs.{Staked.{Staked, validator_at, put_validator, lists_of}, Flow.{◌>>=◌, each}}
-use Rattle.base_roles.specs.World.{View, World, Hook, Told, gives, exceeds, removed, noted, hooked, over_view}
+use Rattle.base_roles.specs.World.{View, World, Told, gives, exceeds, noted, hooked, over_view}
+use Rattle.base_roles.specs.declared.calls.Hook.{Hook, TheVariants.{Removed as removed}}
 use Rattle.base_roles.proofs.HookLemmas.{stand-noted}
 use Rattle.base_roles.specs.declared.facts.Fact.TheVariants as fact
 use Rattle.rule_modules.specs.{Amounts.count_where, Answers.Leaves, BondedSet.{HaveOwnOperators, matured}}

@@ -8,10 +8,10 @@ use Rattle.rule_modules.specs.BondedSet.{is_able, rank_of, is_in_bonded_set, joi
 use Rattle.rule_modules.proofs.OrderLemmas.{same_itself}
 use Rattle.mod_staking.specs.{declared.places.Standing.Standing, Listed.Validators}
 use Rattle.mod_staking.specs.{Places.{standing_cmp, power_place, bonded_place, in_order, with_if}, Registered.AreKeyed}
+use Rattle.mod_staking.specs.KnownSet.{place, is_not_behind, is_within}
 use Rattle.mod_staking.proofs.ListedLemmas.{standing_total, power_placed}
 use Rattle.mod_staking.proofs.PlaceLemmas.{in_order-ascend, stands_listed}
 use Rattle.mod_bonded_set.specs.Sets.{last_place}
-use Rattle.mod_staking.specs.KnownSet.{place, is_not_behind, is_within}
 use Rattle.mod_bonded_set.proofs.SetLemmas.{by_place, Apart, AllApart, by_place-placed, by_power-filter, rank_is, before_count, Counted, filter_is_take, not_behind_is}
 
 -- ---- operators that ascend differ

@@ -10,11 +10,10 @@ use Rattle.rule_modules.specs.{Amounts.count_where, BondedSet.{is_able, is_in_bo
 use Rattle.rule_modules.proofs.OrderLemmas.{addr_total, same_itself}
 use Rattle.mod_staking.specs.{declared.places.Standing.Standing, Listed.Validators}
 use Rattle.mod_staking.specs.{Places.{standing, standing_cmp, power_place, bonded_place, in_order}, Registered.AreKeyed}
+use Rattle.mod_staking.specs.KnownSet.{place, is_within}
 use Rattle.mod_staking.proofs.ListedLemmas.{standing_total, power_placed, bonded_placed, some_if}
 use Rattle.mod_staking.proofs.PlaceLemmas.{in_order-ascend, listed_stands, next_found, found_behind}
-use Rattle.mod_staking.specs.KnownSet.{place, is_within}
-use Rattle.mod_bonded_set.{specs.Sets.{last_place}, proofs.LoopLemmas.length_count}
-use Rattle.mod_bonded_set.proofs.SetLemmas.{by_place}
+use Rattle.mod_bonded_set.{specs.Sets.last_place, proofs.{LoopLemmas.length_count, SetLemmas.by_place}}
 use Rattle.mod_bonded_set.proofs.OrderedLemmas.{all_apart, by_place-ascend, joining_is, within_is, bonded_is, leaving_is}
 
 -- ---- lists cut in two

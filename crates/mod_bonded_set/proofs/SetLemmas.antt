@@ -8,10 +8,9 @@ use Rattle.base_roles.specs.{declared.entities.Validator.Validator, Entries.at}
 use Rattle.rule_modules.specs.Amounts.{count_where}
 use Rattle.rule_modules.specs.BondedSet.{power_of, is_able, stands_before, rank_of, placed, by_power}
 use Rattle.mod_staking.specs.{declared.places.Standing.Standing, Listed.Validators}
-use Rattle.mod_staking.specs.Places.{standing_cmp, power_place, in_order, with_if}
+use Rattle.mod_staking.specs.{Places.{standing_cmp, power_place, in_order, with_if}, KnownSet.{place, is_not_behind}}
 use Rattle.mod_staking.proofs.ListedLemmas.{standing_total, standing_exact}
 use Rattle.mod_bonded_set.specs.Sets.{last_place}
-use Rattle.mod_staking.specs.KnownSet.{place, is_not_behind}
 
 -- ---- numbers and tests
 

@@ -10,7 +10,8 @@ use Rattle.base_coins.specs.Coins.{Money}
 use Rattle.base_roles.specs.declared.{entities.Validator.Validator, faults.HookFault.HookFault, params.Ctx.Ctx}
 use Rattle.base_roles.specs.{Holdings.{IsBacked, balance_of}, Hooks.{Tells, Stand}, Owing.Lists}
 use Rattle.base_roles.specs.{Staked.{Staked, bonded_tokens, other_tokens, is_bonded}, StakeChanges.HoldsStake}
-use Rattle.base_roles.specs.{Flow.{◌>>=◌, each}, World.{View, World, Hook, Told, sent, noted, over_view}}
+use Rattle.base_roles.specs.{Flow.{◌>>=◌, each}, World.{View, World, Told, sent, noted, over_view}}
+use Rattle.base_roles.specs.declared.calls.Hook.{Hook}
 use Rattle.base_roles.specs.declared.facts.Fact.TheVariants as fact
 use Rattle.base_roles.specs.declared.faults.HookFault.TheVariants as hook
 use Rattle.rule_modules.specs.{Amounts.bond_coins, Answers.Leaves}

@@ -7,7 +7,8 @@ use Rattle.base_types.specs.Orders.{addr_cmp}
 use Rattle.base_coins.specs.Coins.{Money, coins_added, coins_quo_cut}
 use Rattle.base_roles.specs.declared.{entities.{SlashEvent.SlashEvent, Validator.Validator}, facts.Fact.Fact}
 use Rattle.base_roles.specs.{declared.faults.HookFault.HookFault, Answers.Answers, Items.no_purse, Entries.at}
-use Rattle.base_roles.specs.{Flow.{◌>>=◌, ◌>>◌, stop_if}, Log.Log, World.{View, created, removed, noted}}
+use Rattle.base_roles.specs.{Flow.{◌>>=◌, ◌>>◌, stop_if}, Log.Log, World.{View, noted}}
+use Rattle.base_roles.specs.declared.calls.Hook.TheVariants.{Created as created, Removed as removed}
 use Rattle.base_roles.specs.declared.facts.Fact.TheVariants as fact
 use Rattle.base_roles.specs.declared.faults.HookFault.TheVariants as hook
 use Rattle.base_roles.specs.Log as log

@@ -3,7 +3,8 @@ use Rattle.std.proofs.Common.{◌≡◌, ◌∙◌, ℕ, List, [], ◌∷◌, �
 use Rattle.base_decimals.specs.declared.over.Over.{Over}
 use Rattle.base_coins.specs.Coins.{Money, fractions, smaller_of, whole_coins}
 use Rattle.base_roles.specs.{declared.{entities.Validator.Validator, faults.HookFault.HookFault}, Answers.Answers}
-use Rattle.base_roles.specs.{Log.Log, Flow.{◌>>=◌}, World.{View, modified, noted}}
+use Rattle.base_roles.specs.{Log.Log, Flow.{◌>>=◌}, World.{View, noted}}
+use Rattle.base_roles.specs.declared.calls.Hook.TheVariants.{Modified as modified}
 use Rattle.base_roles.specs.declared.facts.Fact.TheVariants as fact
 use Rattle.base_roles.specs.Log as log
 use Rattle.rule_modules.specs.Amounts.{over_facts}

@@ -18,8 +18,9 @@ use Rattle.base_roles.specs.Owing.{Lists}
 use Rattle.base_roles.specs.Log.{Log}
 use Rattle.base_roles.specs.NoHooks.{Keeps-same}
 use Rattle.base_roles.specs.Orders.{place_cmp, same_addr}
-use Rattle.base_roles.specs.World.{View, Hook, Told, gives, exceeds}
-use Rattle.base_roles.specs.World as hook
+use Rattle.base_roles.specs.World.{View, Told, gives, exceeds}
+use Rattle.base_roles.specs.declared.calls.Hook.{Hook}
+use Rattle.base_roles.specs.declared.calls.Hook.TheVariants as hook
 use Rattle.mod_allocation.proofs.AllocateLemmas.{told_behind}
 use Rattle.law_soundness.proofs.Burns.{total_in}
 use Rattle.law_soundness.proofs.Creating.{made_leaves}
@@ -52,44 +53,44 @@ none_started l operator who s e = by (l.started who operator) refl
     by false f = refl
 
 at_operators : (h : Hook) (l : Lists) → StartAtOperators l → Needs h l → StartAtOperators (after h l)
-at_operators (hook.created v) l s n who o e = by (same_addr v.operator o) (s who o e)
+at_operators (hook.Created v) l s n who o e = by (same_addr v.operator o) (s who o e)
   where
     by : (b : Bool) → l.operators o ≡ true → (if b then true else l.operators o) ≡ true
     by true h = refl
     by false h = h
-at_operators (hook.removed v) l s n who o e = by (same_addr v.operator o) refl (s who o e)
+at_operators (hook.Removed v) l s n who o e = by (same_addr v.operator o) refl (s who o e)
   where
     by : (b : Bool) → same_addr v.operator o ≡ b → l.operators o ≡ true → (if b then false else l.operators o) ≡ true
     by true f h = let g : true ≡ false = sym e ∙ ap (λ x. l.started who x) (sym (same_is v.operator o f)) ∙ n.1 who in absurd cc
     by false f h = h
-at_operators (hook.bonded v) l s n who o e = s who o e
-at_operators (hook.starting v delegator) l s n who o e = s who o e
-at_operators (hook.modifying v delegator shares) l s n who o e = by (same_addr delegator who && same_addr v.operator o) e
+at_operators (hook.Bonded v) l s n who o e = s who o e
+at_operators (hook.Starting v delegator) l s n who o e = s who o e
+at_operators (hook.Modifying v delegator shares) l s n who o e = by (same_addr delegator who && same_addr v.operator o) e
   where
     by : (b : Bool) → (if b then false else l.started who o) ≡ true → l.operators o ≡ true
     by true f = absurd cc
     by false f = s who o f
-at_operators (hook.modified v delegator shares) l s n who o e = by (same_addr delegator who) (same_addr v.operator o) refl e
+at_operators (hook.Modified v delegator shares) l s n who o e = by (same_addr delegator who) (same_addr v.operator o) refl e
   where
     by : (a b : Bool) → same_addr v.operator o ≡ b → (if a && b then true else l.started who o) ≡ true → l.operators o ≡ true
     by true true g f = ap (λ x. l.operators x) (sym (same_is v.operator o g)) ∙ n.0
     by true false g f = s who o f
     by false true g f = s who o f
     by false false g f = s who o f
-at_operators (hook.slashing v fraction) l s n who o e = s who o e
+at_operators (hook.Slashing v fraction) l s n who o e = s who o e
 
 -- ---- what rules leave
 
 module _ (T : List ℕ → ℕ) where
   told_leaves : (h : Hook) (v : View) (l : Lists) (d : Shared) → HooksFit Any T v l d → StartAtOperators l → Needs h l → IfTold (distribution_told d h v) (λ e u. Leaves Any T v (after h l) e u)
-  told_leaves (hook.created val) v l d h s n = made_leaves Any T val v l d h n (λ who. none_started l val.operator who s n)
-  told_leaves (hook.removed val) v l d h s n = unlogged_if (records_removed val d v) (λ e u. Leaves Any T v (with_operator val.operator false l) e u) (removal_leaves Any T val v l d h n.0)
-  told_leaves (hook.bonded val) v l d h s n = leaves_same Any T v l d h
-  told_leaves (hook.starting val who) v l d h s n =
+  told_leaves (hook.Created val) v l d h s n = made_leaves Any T val v l d h n (λ who. none_started l val.operator who s n)
+  told_leaves (hook.Removed val) v l d h s n = unlogged_if (records_removed val d v) (λ e u. Leaves Any T v (with_operator val.operator false l) e u) (removal_leaves Any T val v l d h n.0)
+  told_leaves (hook.Bonded val) v l d h s n = leaves_same Any T v l d h
+  told_leaves (hook.Starting val who) v l d h s n =
       left_if (ended val d v) (λ e u. Leaves Any T v l e u) (weaker_if (ended val d v) (EndFits Any T val v l d) (λ z. Leaves Any T v l z.1 z.2) (end_fits Any T val v l d h n.0) (λ z k. k.leaves))
-  told_leaves (hook.modifying val who shares) v l d h s n = left_if (reward_withdrawn val who shares d v) (λ e u. Leaves Any T v (with_started who val.operator false l) e u) (withdrawal_leaves Any T val who shares v l d h (s who val.operator n.0))
-  told_leaves (hook.modified val who shares) v l d h s n = start_leaves Any T val who shares v l d h n.0
-  told_leaves (hook.slashing val fraction) v l d h s n = told_if (slash_recorded val fraction d v) (λ e u. Leaves Any T v l e u) (slash_leaves Any T val fraction v l d h n.0 n.1)
+  told_leaves (hook.Modifying val who shares) v l d h s n = left_if (reward_withdrawn val who shares d v) (λ e u. Leaves Any T v (with_started who val.operator false l) e u) (withdrawal_leaves Any T val who shares v l d h (s who val.operator n.0))
+  told_leaves (hook.Modified val who shares) v l d h s n = start_leaves Any T val who shares v l d h n.0
+  told_leaves (hook.Slashing val fraction) v l d h s n = told_if (slash_recorded val fraction d v) (λ e u. Leaves Any T v l e u) (slash_leaves Any T val fraction v l d h n.0 n.1)
 
 given : (t : Told Shared) (Q : Shared → View → Type 0) (s : Shared) (v : View) (log : Log) → t ≡ gives s v log → IfTold t Q → Q s v
 given (gives d u k) Q s v log e q =
@@ -180,13 +181,13 @@ removal_passes val d v s =
         passes_told u (f ∷ [] ++ p.0) (pooled_told c (u.facts ++ f ∷ [])) (p.1 ∙ append_assoc u.facts (f ∷ []) p.0)
 
 told_passes : (h : Hook) (v : View) (d : Shared) → Sorted v → IfTold (distribution_told d h v) (λ e u. Keeps ⊥ v u)
-told_passes (hook.created val) v d s = Keeps-same v
-told_passes (hook.removed val) v d s = unlogged_if (records_removed val d v) (λ e u. Keeps ⊥ v u) (removal_passes val d v s)
-told_passes (hook.bonded val) v d s = Keeps-same v
-told_passes (hook.starting val who) v d s = left_if (ended val d v) (λ e u. Keeps ⊥ v u) (weaker_if (ended val d v) (λ z. EndPasses v z.2) (λ z. Keeps ⊥ v z.2) (end_passes val d v) (λ z k. k.passes))
-told_passes (hook.modifying val who shares) v d s = left_if (reward_withdrawn val who shares d v) (λ e u. Keeps ⊥ v u) (withdrawal_passes val who shares d v s)
-told_passes (hook.modified val who shares) v d s = passes_told v _ _ refl
-told_passes (hook.slashing val fraction) v d s =
+told_passes (hook.Created val) v d s = Keeps-same v
+told_passes (hook.Removed val) v d s = unlogged_if (records_removed val d v) (λ e u. Keeps ⊥ v u) (removal_passes val d v s)
+told_passes (hook.Bonded val) v d s = Keeps-same v
+told_passes (hook.Starting val who) v d s = left_if (ended val d v) (λ e u. Keeps ⊥ v u) (weaker_if (ended val d v) (λ z. EndPasses v z.2) (λ z. Keeps ⊥ v z.2) (end_passes val d v) (λ z k. k.passes))
+told_passes (hook.Modifying val who shares) v d s = left_if (reward_withdrawn val who shares d v) (λ e u. Keeps ⊥ v u) (withdrawal_passes val who shares d v s)
+told_passes (hook.Modified val who shares) v d s = passes_told v _ _ refl
+told_passes (hook.Slashing val fraction) v d s =
     told_if (slash_recorded val fraction d v) (λ e u. Keeps ⊥ v u)
     (on_then (ended val d v) _ (λ z. EndPasses v z.2) _ (end_passes val d v) (λ z k. k.passes))
 

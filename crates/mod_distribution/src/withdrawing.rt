@@ -6,7 +6,7 @@ ghost use Rattle.base_roles.specs.Ground.{seen, CanBeUndone};
 ghost use Rattle.base_roles.specs.Hooks.{MayCall};
 ghost use Rattle.base_roles.specs.Owing.{Lists};
 ghost use Rattle.base_roles.specs.Flow.{stopping};
-ghost use Rattle.base_roles.specs.World.{modifying};
+ghost use Rattle.base_roles.specs.declared.calls.Hook.TheVariants.{Modifying as modifying};
 ghost use Rattle.rule_modules.specs.Distribution.{Shared, reward_due, reward_withdrawn, reward_renewed};
 ghost use Rattle.mod_periods.specs.Kept.{info_of};
 ghost use Rattle.mod_distribution.specs.Calls.{HasRecords, HasStarted, AreShares, CanBePaid, StandFor, reward_paid, CarriesOut, CarriesOutOrRefuses};

@@ -1,7 +1,8 @@
 -- What a call of the hooks gives of a slash.
 use Rattle.std.proofs.Common.{◌≡◌, ◌≤◌, ◌^◌}
-use Rattle.base_roles.specs.{Hooks.{Tells, MayCall, Needs, validator_in}, Owing.Lists}
-use Rattle.base_roles.specs.World.{View, Hook, created, removed, bonded, starting, modifying, modified, slashing}
+use Rattle.base_roles.specs.{Hooks.{Tells, MayCall, Needs, validator_in}, Owing.Lists, World.View}
+use Rattle.base_roles.specs.declared.calls.Hook.{Hook}
+use Rattle.base_roles.specs.declared.calls.Hook.TheVariants.{Created as created, Removed as removed, Bonded as bonded, Starting as starting, Modifying as modifying, Modified as modified, Slashing as slashing}
 use Rattle.mod_recorder.specs.Notes.{CanBurn}
 
 can_burn : (hook : Hook) (l : Lists) → Needs hook l → (validator_in hook).tokens ≤ 10 ^ 18 → CanBurn hook

@@ -1,7 +1,9 @@
 -- What a recorder heard: its notes, and how many facts the parts of the present block told before this one.
 use Rattle.std.specs.Prelude.{ℕ, ◌+◌, ◌-◌, ◌*◌, ◌^◌, ◌≤◌, ⊤, min, List, [], ◌∷◌, ◌++◌, length, Option, Some, None}
 use Rattle.base_decimals.specs.Rounding.{cut}
-use Rattle.base_roles.specs.World.{View, Hook, created, removed, bonded, starting, modifying, modified, slashing}
+use Rattle.base_roles.specs.World.{View}
+use Rattle.base_roles.specs.declared.calls.Hook.{Hook}
+use Rattle.base_roles.specs.declared.calls.Hook.TheVariants.{Created as created, Removed as removed, Bonded as bonded, Starting as starting, Modifying as modifying, Modified as modified, Slashing as slashing}
 use Rattle.mod_statement.specs.declared.entry.Entry.TheVariants.{Started, Slashed, Touched}
 use Rattle.mod_recorder.specs.declared.note.Note.{Note}
 

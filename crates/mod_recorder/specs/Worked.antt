@@ -2,7 +2,8 @@
 use Rattle.std.specs.Prelude.{◌≡◌, ℕ, ◌*◌, ◌^◌, ◌-◌, false, List, [], ◌∷◌, replicate, None, Some}
 use Rattle.base_types.specs.declared.status.BondStatus.TheVariants.{Bonded}
 use Rattle.base_roles.specs.declared.entities.Validator.{Validator}
-use Rattle.base_roles.specs.World.{Hook, bonded, created, modified, modifying, slashing}
+use Rattle.base_roles.specs.declared.calls.Hook.{Hook}
+use Rattle.base_roles.specs.declared.calls.Hook.TheVariants.{Bonded as bonded, Created as created, Modified as modified, Modifying as modifying, Slashing as slashing}
 use Rattle.mod_statement.specs.declared.entry.Entry.TheVariants.{Started, Slashed, Touched}
 use Rattle.mod_recorder.specs.declared.note.Note.{Note}
 use Rattle.mod_recorder.specs.Notes.{Noted, counted, ended, note_of, noted, nothing_noted, parted}

@@ -8,7 +8,7 @@ use Rattle.base_roles.specs.declared.refusal.Refusal.{Refusal}
 use Rattle.base_roles.specs.declared.refusal.Refusal.TheVariants.{WrongDenom, NonPositive, NoValidator, NoTokens, TooManyShares, SelfRedelegation, Transitive, RedelegationsFull, TinyRedelegation, Overflow}
 use Rattle.base_roles.specs.{Answers.AnswersAs, Orders.same_addr, Staked.{Staked, validator_at, delegation}}
 use Rattle.base_roles.specs.{StakeChanges.HasShares, Flow.{◌>>=◌, ◌>>◌, stop_if, or_stop, stopping}}
-use Rattle.base_roles.specs.World.{View, Hook, Told, World}
+use Rattle.base_roles.specs.{World.{View, Told, World}, declared.calls.Hook.Hook}
 use Rattle.base_roles.specs.declared.faults.MessageFault.TheVariants as stop
 use Rattle.rule_modules.specs.Delegating.{is_wrong, shares_given, pool, delegated}
 use Rattle.rule_modules.specs.Redelegations.{RedelegationLists, redelegations_of, is_transitive, begin_info, appended, redelegated}

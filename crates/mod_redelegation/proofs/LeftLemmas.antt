@@ -9,7 +9,8 @@ use Rattle.base_roles.specs.{declared.entities.Validator.Validator, Answers.Foll
 use Rattle.base_roles.specs.{Holdings.balance_of, Hooks.Keeps, Orders.{pair_cmp, same_addr}}
 use Rattle.base_roles.specs.Staked.{Staked, validator_at, delegation, put_validator, is_bonded, bonded_tokens, other_tokens}
 use Rattle.base_roles.specs.StakeChanges.{HoldsStake, IsUnbonded, validator_left}
-use Rattle.base_roles.specs.World.{View, Hook, Told, World, call, modifying, over_mine, logged}
+use Rattle.base_roles.specs.{World.{View, Told, World, call, over_mine, logged}, declared.calls.Hook.Hook}
+use Rattle.base_roles.specs.declared.calls.Hook.TheVariants.{Modifying as modifying}
 use Rattle.base_roles.specs.Log as log
 use Rattle.rule_modules.specs.Delegating.{pool}
 use Rattle.rule_modules.specs.Unbonding.{falls_below_minimum, put_in_jail, left_standing, removed_if_empty, unbonded_of, unbonded_shares, shares_unbonded}

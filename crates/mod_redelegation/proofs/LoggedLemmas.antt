@@ -7,7 +7,8 @@ use Rattle.base_roles.specs.declared.{entities.Validator.Validator, faults.Messa
 use Rattle.base_roles.specs.declared.refusal.Refusal.{Refusal, TheVariants.Overflow}
 use Rattle.base_roles.specs.{Answers.{Follows, AnswersAs, RefusesAs}, Log.Log}
 use Rattle.base_roles.specs.{Staked.{Staked, validator_at, delegation, put_validator}, Flow.{◌>>=◌, stopping}}
-use Rattle.base_roles.specs.World.{View, Hook, Told, gives, exceeds, World, hooked, call, modified, over_view, over_mine}
+use Rattle.base_roles.specs.World.{View, Told, gives, exceeds, World, hooked, call, over_view, over_mine}
+use Rattle.base_roles.specs.declared.calls.Hook.{Hook, TheVariants.{Modified as modified}}
 use Rattle.rule_modules.specs.Delegating.{Origin, pool, paid_in, hook_before, shares_given, delegated}
 use Rattle.rule_modules.specs.{Redelegations.{RedelegationLists, begin_info, appended}, Stakes.put_delegation}
 use Rattle.rule_modules.specs.Unbonding.{shares_unbonded}

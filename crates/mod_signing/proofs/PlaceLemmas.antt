@@ -1,9 +1,8 @@
 -- Rows whose places that are set are marked in lists of signed votes: which place is the next that is set, and what a list has become.
-use Rattle.std.proofs.Common.{◌≡◌, ◌∙◌, ℕ, ◌+◌, ◌-◌, ◌/◌, ◌%◌, ◌^◌, ◌<◌, ◌≤◌, ◌==◌, Bool, true, false, List, ◌∷◌, ◌++◌, [], length, length-append, take, drop, replicate, slice_set, refl, sym, ap, subst, append_assoc, append-nil, take_at, arith, zero, suc}
-use Rattle.std.specs.Int.{bit_at, Count.{count_trailing_zeros, trailing_of_zero}}
-use Rattle.std.proofs.lemmas.Nat.{shr_le, shr-shr}
+use Rattle.std.proofs.Common.{◌≡◌, ◌∙◌, ℕ, ◌+◌, ◌-◌, ◌/◌, ◌%◌, ◌^◌, ◌<◌, ◌≤◌, ◌==◌, Bool, true, false, List, ◌∷◌, ◌++◌, [], length, length-append, take, drop, replicate, slice_set, refl, sym, ap, subst, append_assoc, append-nil, take_at, arith, zero, suc, shr-shr, drop_at}
+use Rattle.std.{specs.Int.{bit_at, Count.{count_trailing_zeros, trailing_of_zero}}, proofs.lemmas.Nat.shr_le}
 use Rattle.std.proofs.lemmas.Nat.Bits.{bit_at-trailing_zeros, bit_at-zero}
-use Rattle.std.proofs.lemmas.List.{drop_at, drop-replicate, length-replicate, replicate-append-replicate, replicate_more, set_at, take-replicate}
+use Rattle.std.proofs.lemmas.List.{drop-replicate, length-replicate, replicate-append-replicate, replicate_more, set_at, take-replicate}
 use borrow.Rule.Slice.PartMut.{put_mid}
 use mir.Syntax.{w128}
 use Rattle.base_roles.specs.Entries.{number_at}

@@ -5,7 +5,9 @@ use Rattle.base_roles.specs.Ground.{IsInOrder}
 use Rattle.base_roles.specs.Hooks.{Lawful}
 use Rattle.base_roles.specs.Log.{Log}
 use Rattle.base_roles.specs.NoHooks.{Keeps-given}
-use Rattle.base_roles.specs.World.{View, Hook, created, removed, bonded, starting, modifying, modified, slashing, gives}
+use Rattle.base_roles.specs.World.{View, gives}
+use Rattle.base_roles.specs.declared.calls.Hook.{Hook}
+use Rattle.base_roles.specs.declared.calls.Hook.TheVariants.{Created as created, Removed as removed, Bonded as bonded, Starting as starting, Modifying as modifying, Modified as modified, Slashing as slashing}
 use Rattle.rule_modules.specs.Window.{signing_started}
 use Rattle.mod_signing.specs.Stands.{Signings, signings_told}
 

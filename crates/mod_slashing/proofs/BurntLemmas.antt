@@ -11,7 +11,8 @@ use Rattle.base_roles.specs.{Ground.{AreInRange, end_of_blocks}, Holdings.{balan
 use Rattle.base_roles.specs.{Hooks.{Tells, Stand, Ready, Keeps, Lawful}, Owing.Lists, Log.Log}
 use Rattle.base_roles.specs.Staked.{Staked, validator_at, put_validator, is_bonded, bonded_tokens, other_tokens}
 use Rattle.base_roles.specs.{StakeChanges.{HoldsStake, StakeFalls}, Flow.{◌>>=◌}}
-use Rattle.base_roles.specs.World.{View, slashing, Told, gives, exceeds, World, hooked, noted, burnt, over_view, logged}
+use Rattle.base_roles.specs.World.{View, Told, gives, exceeds, World, hooked, noted, burnt, over_view, logged}
+use Rattle.base_roles.specs.declared.calls.Hook.TheVariants.{Slashing as slashing}
 use Rattle.base_roles.proofs.{BurnLemmas.{burns_by_amounts, burns_lower_supplies}, HoldingLemmas.denom_total}
 use Rattle.base_roles.proofs.HookLemmas.{Stand-same, stand-noted}
 use Rattle.base_roles.specs.declared.facts.Fact.TheVariants as fact

@@ -3,7 +3,7 @@ use Rattle.std.proofs.Common.{◌≡◌, ◌∙◌, ℕ, ◌+◌, ◌-◌, false
 use Rattle.base_decimals.specs.declared.over.Over.{Over}
 use Rattle.base_roles.specs.{declared.{entities.Validator.Validator, faults.HookFault.HookFault}, Answers.Follows}
 use Rattle.base_roles.specs.{Lent.{FollowsLent, IsAsTold}, Log.Log, Staked.{Staked, validator_at, is_unbonded}}
-use Rattle.base_roles.specs.{Flow.{◌>>=◌}, World.{View, Hook, Told, World}}
+use Rattle.base_roles.specs.{Flow.{◌>>=◌}, World.{View, Told, World}, declared.calls.Hook.Hook}
 use Rattle.rule_modules.specs.Slashing.{Core, EntriesSlash, staked_unbonds, slash_amount, rest_slashed, slashed_at}
 use Rattle.mod_staking.specs.Calls.{behind_log}
 

@@ -7,7 +7,7 @@ ghost use Rattle.base_roles.specs.Hooks.{MayCall};
 ghost use Rattle.base_roles.specs.Log.{Log};
 ghost use Rattle.base_roles.specs.Staked.{Staked, validator_at, bonded_tokens, other_tokens};
 ghost use Rattle.base_roles.specs.StakeChanges.{HoldsStake, StakeFalls, StillStand};
-ghost use Rattle.base_roles.specs.World.{slashing};
+ghost use Rattle.base_roles.specs.declared.calls.Hook.TheVariants.{Slashing as slashing};
 ghost use Rattle.rule_modules.specs.Answers.{Leaves};
 ghost use Rattle.rule_modules.specs.Slashing.{slash_fraction, slash_told, validator_slashed, rest_slashed};
 ghost use Rattle.mod_staking.specs.Calls.{behind_log};

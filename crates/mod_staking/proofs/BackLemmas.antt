@@ -8,7 +8,8 @@ use Rattle.base_roles.specs.{declared.refusal.Refusal.TheVariants.Overflow, Answ
 use Rattle.base_roles.specs.{Holdings.{balance_of, IsBacked}, Hooks.{Tells, Stand, Keeps, Lawful, after}, Log.Log}
 use Rattle.base_roles.specs.Staked.{Staked, validator_at, delegation, put_validator, lists_of, is_bonded, bonded_tokens, other_tokens}
 use Rattle.base_roles.specs.{StakeChanges.HoldsStake, Flow.{◌>>=◌, stopping}}
-use Rattle.base_roles.specs.World.{View, Hook, Told, gives, exceeds, World, hooked, modified, over_view, over_mine, sent}
+use Rattle.base_roles.specs.World.{View, Told, gives, exceeds, World, hooked, over_view, over_mine, sent}
+use Rattle.base_roles.specs.declared.calls.Hook.{Hook, TheVariants.{Modified as modified}}
 use Rattle.rule_modules.specs.Amounts.{bond_coins}
 use Rattle.rule_modules.specs.Delegating.{Origin, pool, shares_given, paid_in, hook_before, delegated}
 use Rattle.rule_modules.{specs.Stakes.{put_delegation, pool_of}, proofs.SoundLemmas.IsSoundAt}

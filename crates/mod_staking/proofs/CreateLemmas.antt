@@ -9,8 +9,8 @@ use Rattle.base_roles.specs.declared.refusal.Refusal.TheVariants.{NonPositive, C
 use Rattle.base_roles.specs.{Holdings.balance_of, Hooks.{Tells, Stand, Ready}}
 use Rattle.base_roles.specs.Staked.{Staked, validator_at, validator_by_cons, put_validator, lists_of, is_bonded, bonded_tokens, other_tokens}
 use Rattle.base_roles.specs.{StakeChanges.HoldsStake, declared.faults.MessageFault.MessageFault, Answers.AnswersAs}
-use Rattle.base_roles.specs.{Log.Log, Flow.{◌>>=◌, ◌>>◌, stop_if, stopping}}
-use Rattle.base_roles.specs.World.{View, Hook, Told, gives, World, hooked, created}
+use Rattle.base_roles.specs.{Log.Log, Flow.{◌>>=◌, ◌>>◌, stop_if, stopping}, World.{View, Told, gives, World, hooked}}
+use Rattle.base_roles.specs.declared.calls.Hook.{Hook, TheVariants.{Created as created}}
 use Rattle.base_roles.specs.declared.faults.MessageFault.TheVariants as stop
 use Rattle.rule_modules.specs.{Delegating.{is_wrong, wallet, delegated}, Sound.ValidatorIsSound}
 use Rattle.rule_modules.specs.Validators.{new_validator, are_out_of_range}

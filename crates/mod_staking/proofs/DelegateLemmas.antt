@@ -11,9 +11,9 @@ use Rattle.base_roles.specs.{declared.refusal.Refusal.TheVariants.{TinyDelegatio
 use Rattle.base_roles.specs.{Entries.{with, without, with_number, number_at}, Holdings.{balance_of, IsBacked}}
 use Rattle.base_roles.specs.{Hooks.{Tells, Stand, Ready, Keeps, Lawful, after}, Owing.Lists, Orders.pair_cmp}
 use Rattle.base_roles.specs.Staked.{Staked, validator_at, delegation, put_validator, lists_of, is_bonded, tokens_where, bonded_tokens, other_tokens}
-use Rattle.base_roles.specs.{StakeChanges.HoldsStake, Flow.{◌>>=◌, ◌>>◌, stop_if, stopping}}
-use Rattle.base_roles.{specs.World.{View, Hook, modified}, proofs.HookLemmas.{told-of_ok, Stand-after_ok}}
-use Rattle.base_roles.proofs.HoldingLemmas.{balance-most}
+use Rattle.base_roles.specs.{StakeChanges.HoldsStake, Flow.{◌>>=◌, ◌>>◌, stop_if, stopping}, World.View}
+use Rattle.base_roles.specs.declared.calls.Hook.{Hook, TheVariants.{Modified as modified}}
+use Rattle.base_roles.proofs.{HookLemmas.{told-of_ok, Stand-after_ok}, HoldingLemmas.balance-most}
 use Rattle.rule_modules.specs.Delegating.{Origin, wallet, pool, shares_given, paid_in, hook_before}
 use Rattle.rule_modules.specs.{Sound.ValidatorIsSound, Stakes.{put_delegation, refusal_of_shares}}
 use Rattle.rule_modules.proofs.SoundLemmas.{IsSoundAt, sound-changed, held_within, put_with}

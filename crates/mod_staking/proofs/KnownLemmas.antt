@@ -1,7 +1,6 @@
 -- What is known of the bonded validators is still so once one was put or taken.
-use Rattle.std.proofs.Common.{◌≡◌, ℕ, Bool, true, false, cond, List, Option, Some, None, refl, sym, subst, Result, Ok, Err, OnOk}
-use Rattle.std.specs.{List.All, Prelude.{⊤, OnErr}}
-use Rattle.std.specs.{BTreeMap.is_at, Map.values_of}
+use Rattle.std.proofs.Common.{◌≡◌, ℕ, Bool, true, false, cond, List, Option, Some, None, refl, sym, subst, Result, Ok, Err, OnOk, All, OnErr}
+use Rattle.std.specs.{Prelude.⊤, BTreeMap.is_at, Map.values_of}
 use Rattle.std.proofs.lemmas.Map.Views.{All-values-insert_entry, All-map-remove_entry}
 use Rattle.base_types.specs.Orders.{addr_cmp}
 use Rattle.base_roles.specs.{declared.entities.Validator.Validator, Entries.{with, without}, Staked.is_bonded}

@@ -7,7 +7,8 @@ use Rattle.base_roles.specs.{declared.{entities.Validator.Validator, facts.Fact.
 use Rattle.base_roles.specs.Entries.{with, without, with_number, number_at}
 use Rattle.base_roles.specs.{Hooks.{Tells, Stand, Ready, Keeps, Lawful, with_started}, Owing.Lists, Log.Log}
 use Rattle.base_roles.specs.{Orders.pair_cmp, Staked.{Staked, validator_at, delegation, put_validator, lists_of}}
-use Rattle.base_roles.specs.World.{View, hooked, modifying, modified}
+use Rattle.base_roles.specs.World.{View, hooked}
+use Rattle.base_roles.specs.declared.calls.Hook.TheVariants.{Modifying as modifying, Modified as modified}
 use Rattle.base_roles.proofs.HookLemmas.{told-of_ok, stand-noted, Stand-after_ok}
 use Rattle.rule_modules.specs.{Sound.ValidatorIsSound, Stakes.{put_delegation, without_shares}, Unbonding.left_standing}
 use Rattle.rule_modules.proofs.SoundLemmas.{IsSoundAt, sound-changed, found_itself, sound-put}

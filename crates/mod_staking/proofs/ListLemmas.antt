@@ -4,7 +4,8 @@ use Rattle.std.specs.{List.Sorted.IsStrictlySortedBy, Map.keys_of, BTreeMap.is_a
 use Rattle.base_types.specs.Orders.{addr_cmp}
 use Rattle.base_roles.specs.{declared.entities.Validator.Validator, Entries.{at, with_number}}
 use Rattle.base_roles.specs.{Hooks.{with_operator, with_started, after}, Owing.Lists, Orders.{pair_cmp, same_addr}}
-use Rattle.base_roles.specs.{Staked.{Staked, validator_at, put_validator, lists_of}, World.modified}
+use Rattle.base_roles.specs.Staked.{Staked, validator_at, put_validator, lists_of}
+use Rattle.base_roles.specs.declared.calls.Hook.TheVariants.{Modified as modified}
 use Rattle.rule_modules.specs.{Delegating.hook_before, Stakes.without_validator}
 use Rattle.rule_modules.proofs.OrderLemmas.{same_is, same_itself, same_back, pair_found}
 use Rattle.rule_modules.proofs.SoundLemmas.{at-number, put_with, found-put}

@@ -5,7 +5,9 @@ use Rattle.base_shares.specs.Shares.{amount_out}
 use Rattle.base_roles.specs.declared.{entities.Validator.Validator, faults.HookFault.HookFault}
 use Rattle.base_roles.specs.{Answers.{Follows, ExceedsAs}, Log.Log}
 use Rattle.base_roles.specs.{Staked.{Staked, validator_at, delegation, put_validator, is_unbonded}, Flow.{◌>>=◌}}
-use Rattle.base_roles.specs.World.{View, Hook, Told, gives, exceeds, World, hooked, call, modifying, modified, removed, noted, over_view, over_mine, logged}
+use Rattle.base_roles.specs.World.{View, Told, gives, exceeds, World, hooked, call, noted, over_view, over_mine, logged}
+use Rattle.base_roles.specs.declared.calls.Hook.{Hook}
+use Rattle.base_roles.specs.declared.calls.Hook.TheVariants.{Modifying as modifying, Modified as modified, Removed as removed}
 use Rattle.base_roles.specs.declared.facts.Fact.TheVariants as fact
 use Rattle.base_roles.specs.Log as log
 use Rattle.rule_modules.specs.Stakes.{without_validator, put_delegation, without_shares}

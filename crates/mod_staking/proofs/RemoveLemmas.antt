@@ -3,7 +3,8 @@ use Rattle.std.proofs.Common.{◌≡◌, ℕ, true, Some, refl, ap, Err, is_some
 use Rattle.base_decimals.specs.declared.over.Over.{Over}
 use Rattle.base_roles.specs.{declared.{entities.Validator.Validator, faults.HookFault.HookFault}, Answers.Answers}
 use Rattle.base_roles.specs.{Hooks.{Tells, Stand, Ready, Lawful, IsGiven}, Owing.Lists}
-use Rattle.base_roles.specs.{Staked.{Staked, validator_at, lists_of}, World.{View, Told, gives, exceeds, removed}}
+use Rattle.base_roles.specs.{Staked.{Staked, validator_at, lists_of}, World.{View, Told, gives, exceeds}}
+use Rattle.base_roles.specs.declared.calls.Hook.TheVariants.{Removed as removed}
 use Rattle.base_roles.specs.declared.faults.HookFault.TheVariants as hook
 use Rattle.rule_modules.proofs.SoundLemmas.{IsSoundAt}
 use Rattle.mod_staking.proofs.SoundLemmas.{no_shares}

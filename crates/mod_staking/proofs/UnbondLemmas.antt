@@ -4,7 +4,8 @@ use Rattle.base_decimals.specs.declared.over.Over.{Over}
 use Rattle.base_shares.specs.Shares.{amount_out}
 use Rattle.base_roles.specs.{declared.{entities.Validator.Validator, faults.HookFault.HookFault}, Answers.Follows}
 use Rattle.base_roles.specs.{Log.Log, Staked.{Staked, put_validator}, Flow.{◌>>=◌}}
-use Rattle.base_roles.specs.World.{View, Hook, Told, gives, exceeds, World, hooked, modifying, over_mine, logged}
+use Rattle.base_roles.specs.World.{View, Told, gives, exceeds, World, hooked, over_mine, logged}
+use Rattle.base_roles.specs.declared.calls.Hook.{Hook, TheVariants.{Modifying as modifying}}
 use Rattle.base_roles.specs.declared.faults.HookFault.TheVariants as hook
 use Rattle.base_roles.specs.Log as log
 use Rattle.rule_modules.specs.Answers.{WantsMemory, Leaves}

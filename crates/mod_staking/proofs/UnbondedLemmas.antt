@@ -8,7 +8,8 @@ use Rattle.base_roles.specs.declared.{entities.Validator.Validator, facts.Fact.T
 use Rattle.base_roles.specs.{Entries.{at, with_number}, Log.Log, Orders.{pair_cmp, same_addr}}
 use Rattle.base_roles.specs.Staked.{Staked, validator_at, delegation, put_validator, is_bonded, is_unbonded, tokens_where, bonded_tokens, other_tokens}
 use Rattle.base_roles.specs.{StakeChanges.{shares_left, validator_left, IsUnbonded}, Flow.{◌>>=◌}}
-use Rattle.base_roles.specs.World.{View, Hook, Told, gives, exceeds, World, hooked, removed, noted, over_view}
+use Rattle.base_roles.specs.World.{View, Told, gives, exceeds, World, hooked, noted, over_view}
+use Rattle.base_roles.specs.declared.calls.Hook.{Hook, TheVariants.{Removed as removed}}
 use Rattle.rule_modules.specs.{Answers.Leaves, Stakes.without_validator}
 use Rattle.rule_modules.specs.Unbonding.{removed_if_empty, falls_below_minimum}
 use Rattle.rule_modules.proofs.{OrderLemmas.{same_back, same_itself}, SoundLemmas.{IsSoundAt, at-number, found-put}}

@@ -7,7 +7,7 @@ ghost use Rattle.base_roles.specs.declared.faults.HookFault.TheVariants.{NoMemor
 ghost use Rattle.base_roles.specs.Hooks.{Stands, MayCall};
 ghost use Rattle.base_roles.specs.Log.{Log};
 ghost use Rattle.base_roles.specs.Orders.{same_addr};
-ghost use Rattle.base_roles.specs.World.{modified};
+ghost use Rattle.base_roles.specs.declared.calls.Hook.TheVariants.{Modified as modified};
 ghost use Rattle.base_roles.specs.Staked.{Staked, validator_at, delegation, lists_of};
 ghost use Rattle.base_roles.specs.StakeChanges.{HasShares, IsUnbonded};
 ghost use Rattle.rule_modules.specs.Answers.{Leaves};

@@ -10,7 +10,7 @@ use Rattle.base_roles.specs.declared.{entities.Validator.Validator, params.Ctx.C
 use Rattle.base_roles.specs.declared.refusal.Refusal.TheVariants.{WrongDenom, NonPositive, NoValidator, NoTokens, TooManyShares, UnbondingsFull, Overflow}
 use Rattle.base_roles.specs.{Answers.Follows, Staked.{Staked, validator_at, delegation, is_bonded}}
 use Rattle.base_roles.specs.{StakeChanges.HasShares, Flow.{◌>>=◌, ◌>>◌, stop_if, or_stop, stopping}}
-use Rattle.base_roles.specs.World.{View, Hook, Told, World, sent, over_view}
+use Rattle.base_roles.specs.{World.{View, Told, World, sent, over_view}, declared.calls.Hook.Hook}
 use Rattle.rule_modules.specs.{Amounts.bond_coins, Delegating.is_wrong}
 use Rattle.rule_modules.specs.Unbonding.{shares_to_unbond, unbonded_shares, unbonded_of, shares_unbonded}
 use Rattle.rule_modules.specs.Unbondings.{UnbondingLists, entries_of, with_entries, completion, grown, undelegated}

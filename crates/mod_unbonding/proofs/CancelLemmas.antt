@@ -10,7 +10,8 @@ use Rattle.base_roles.specs.declared.refusal.Refusal.TheVariants.{WrongDenom, No
 use Rattle.base_roles.specs.{Answers.AnswersAs, Hooks.{Tells, Stand, Lawful}, Log.Log}
 use Rattle.base_roles.specs.Staked.{Staked, validator_at, delegation, put_validator, lists_of, bonded_tokens, other_tokens}
 use Rattle.base_roles.specs.{StakeChanges.HoldsStake, Flow.{◌>>=◌, ◌>>◌, stop_if, or_stop, stopping}}
-use Rattle.base_roles.specs.World.{View, Hook, Told, gives, exceeds, World, hooked, modified, over_view, over_mine}
+use Rattle.base_roles.specs.World.{View, Told, gives, exceeds, World, hooked, over_view, over_mine}
+use Rattle.base_roles.specs.declared.calls.Hook.{Hook, TheVariants.{Modified as modified}}
 use Rattle.base_roles.specs.declared.faults.MessageFault.TheVariants as stop
 use Rattle.rule_modules.specs.Delegating.{Origin, is_wrong, pool, paid_in, hook_before, shares_given, delegated}
 use Rattle.rule_modules.specs.{Owed.{balances_of, entry_balances}, Sound.UnbondingIsSound, Stakes.put_delegation}

@@ -6,8 +6,9 @@ use Rattle.base_messages.specs.declared.genesis.Genesis.{Genesis}
 use Rattle.base_roles.specs.declared.refusal.Refusal.{Refusal}
 use Rattle.base_roles.specs.declared.refusal.Refusal.TheVariants.{Overflow}
 use Rattle.base_roles.specs.Flow.{◌>>=◌, each, stopping}
-use Rattle.base_roles.specs.World.{View, Hook}
-use Rattle.base_roles.specs.World as hook
+use Rattle.base_roles.specs.World.{View}
+use Rattle.base_roles.specs.declared.calls.Hook.{Hook}
+use Rattle.base_roles.specs.declared.calls.Hook.TheVariants as hook
 use Rattle.rule_machine.specs.Listening.{block_heard, genesis_heard, heard_in}
 use Rattle.rule_histories.specs.LifeRows.{first, fourth, second, third, two_powers}
 
@@ -24,13 +25,13 @@ pub data Heard : Type 0 where
   block : Heard
 
 abbrev pub call_of : Hook → ℕ → Heard
-call_of (hook.created v) facts = created facts
-call_of (hook.removed v) facts = removed facts
-call_of (hook.bonded v) facts = bonded facts
-call_of (hook.starting v delegator) facts = starting facts
-call_of (hook.modifying v delegator shares) facts = modifying facts
-call_of (hook.modified v delegator shares) facts = modified facts
-call_of (hook.slashing v fraction) facts = slashing facts
+call_of (hook.Created v) facts = created facts
+call_of (hook.Removed v) facts = removed facts
+call_of (hook.Bonded v) facts = bonded facts
+call_of (hook.Starting v delegator) facts = starting facts
+call_of (hook.Modifying v delegator shares) facts = modifying facts
+call_of (hook.Modified v delegator shares) facts = modified facts
+call_of (hook.Slashing v fraction) facts = slashing facts
 
 abbrev pub hears : List Heard → Hook → View → List Heard
 hears heard hook v = heard ++ call_of hook (length v.facts) ∷ []

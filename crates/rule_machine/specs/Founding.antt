@@ -8,7 +8,8 @@ use Rattle.base_types.specs.declared.account.Module.TheVariants as holder
 use Rattle.base_types.specs.Orders.{addr_cmp}
 use Rattle.base_roles.specs.Holdings.{balance_of}
 use Rattle.base_roles.specs.Staked.{Staked, validator_at, other_tokens, is_unbonded}
-use Rattle.base_roles.specs.World.{View, Hook, Told, World, gives}
+use Rattle.base_roles.specs.World.{View, Told, World, gives}
+use Rattle.base_roles.specs.declared.calls.Hook.{Hook}
 use Rattle.base_messages.specs.declared.genesis.GenesisDelegation.{GenesisDelegation}
 
 -- hooks that do nothing

@@ -7,7 +7,8 @@ use Rattle.base_roles.specs.declared.refusal.Refusal.{Refusal}
 use Rattle.base_roles.specs.declared.refusal.Refusal.TheVariants.{NoValidator, Overflow}
 use Rattle.base_roles.specs.Staked.{Staked, validator_at}
 use Rattle.base_roles.specs.Flow.{◌>>=◌, or_stop, stopping, each}
-use Rattle.base_roles.specs.World.{World, View, Hook, Told, over_view}
+use Rattle.base_roles.specs.World.{World, View, Told, over_view}
+use Rattle.base_roles.specs.declared.calls.Hook.{Hook}
 use Rattle.base_messages.specs.declared.genesis.Genesis.{Genesis}
 use Rattle.base_messages.specs.declared.genesis.GenesisDelegation.{GenesisDelegation}
 use Rattle.base_messages.specs.declared.genesis.GenesisValidator.{GenesisValidator}

@@ -11,7 +11,9 @@ use Rattle.base_roles.specs.declared.refusal.Refusal.TheVariants.{Overflow}
 use Rattle.base_roles.specs.Flow.{◌>>=◌, each, stopping}
 use Rattle.base_roles.specs.Pair.{and_then, given_with}
 use Rattle.base_roles.specs.Staked.{delegation, validator_at}
-use Rattle.base_roles.specs.World.{View, Hook, modified, Told, gives, World}
+use Rattle.base_roles.specs.World.{View, Told, gives, World}
+use Rattle.base_roles.specs.declared.calls.Hook.{Hook}
+use Rattle.base_roles.specs.declared.calls.Hook.TheVariants.{Modified as modified}
 use Rattle.base_coins.specs.declared.coin.Coin.{Coin}
 use Rattle.base_messages.specs.declared.block.Block.{Block}
 use Rattle.base_messages.specs.declared.block.Tx.{Tx}

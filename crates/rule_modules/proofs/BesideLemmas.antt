@@ -5,10 +5,11 @@ use Rattle.base_decimals.specs.declared.over.Over.{Over}
 use Rattle.base_shares.specs.Shares.{amount_out}
 use Rattle.base_roles.specs.{declared.entities.Validator.Validator, Pair.{and_then, given_with}}
 use Rattle.base_roles.specs.{Staked.{Staked, is_unbonded, put_validator}, Flow.{◌>>=◌}}
-use Rattle.base_roles.specs.World.{View, Hook, Told, gives, exceeds, World, hooked, call, noted, over_view, over_mine, logged, modifying, modified}
+use Rattle.base_roles.specs.World.{View, Told, gives, exceeds, World, hooked, call, noted, over_view, over_mine, logged}
+use Rattle.base_roles.specs.declared.calls.Hook.{Hook, TheVariants.{Modifying as modifying, Modified as modified}}
 use Rattle.base_roles.specs.declared.facts.Fact.TheVariants as fact
 use Rattle.base_roles.specs.Log as log
-use Rattle.base_roles.specs.World as hook
+use Rattle.base_roles.specs.declared.calls.Hook.TheVariants as hook
 use Rattle.rule_modules.specs.{Chain.{Hooks, chain_told}, Distribution.{Shared, distribution_told}}
 use Rattle.rule_modules.specs.Stakes.{put_delegation, without_shares, without_validator}
 use Rattle.rule_modules.specs.Unbonding.{put_in_jail, falls_below_minimum, left_standing, removed_if_empty, validator_removed, unbonded_shares}
@@ -61,8 +62,8 @@ module _ (i : Window) where
       by : (b : Bool) → (if b then validator_removed chain_told v (raised w) else Ok (raised w)) ≡ raised_step (if b then validator_removed distribution_told v w else Ok w)
       by true =
           let gone : World Staked Shared = over_mine (without_validator v.operator) w in
-          ap (λ r. r >>= λ x. Ok (over_view (noted (fact.Removed v.operator)) x)) (call_same (hook.removed v) gone (λ u. refl))
-          ∙ then_same (call distribution_told (hook.removed v) gone) (λ x. Ok (over_view (noted (fact.Removed v.operator)) x)) (λ x. Ok (over_view (noted (fact.Removed v.operator)) x)) (λ y. refl)
+          ap (λ r. r >>= λ x. Ok (over_view (noted (fact.Removed v.operator)) x)) (call_same (hook.Removed v) gone (λ u. refl))
+          ∙ then_same (call distribution_told (hook.Removed v) gone) (λ x. Ok (over_view (noted (fact.Removed v.operator)) x)) (λ x. Ok (over_view (noted (fact.Removed v.operator)) x)) (λ y. refl)
       by false = refl
 
   may_be_jailed : (falls : Bool) (v : Validator) (w : World Staked Shared) → (if falls then put_in_jail v (raised w) else raised w) ≡ raised (if falls then put_in_jail v w else w)

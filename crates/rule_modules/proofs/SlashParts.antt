@@ -7,8 +7,8 @@ use Rattle.base_roles.specs.declared.entities.{RedelegationEntry.RedelegationEnt
 use Rattle.base_roles.specs.{declared.messages.{Evidence.Evidence, Vote.Vote}, Entries.with, Flow.{◌>>=◌}}
 use Rattle.base_roles.specs.{Lent.jail_told, Orders.same_addr}
 use Rattle.base_roles.specs.Staked.{Staked, delegation, is_unbonded, put_validator, validator_at, validator_by_cons}
-use Rattle.base_roles.specs.World.{View, Hook, Told, World, burnt, noted, over_mine, over_view, hooked, logged}
-use Rattle.base_roles.specs.Log.{Log}
+use Rattle.base_roles.specs.World.{View, Told, World, burnt, noted, over_mine, over_view, hooked, logged}
+use Rattle.base_roles.specs.{declared.calls.Hook.Hook, Log.Log}
 use Rattle.base_roles.specs.declared.facts.Fact.TheVariants as fact
 use Rattle.base_types.specs.declared.account.Module.TheVariants as holder
 use Rattle.rule_modules.specs.Chain.{Stakes, State, beside_window, evidence_step, staked_in, vote_step, with_staked, with_window, chain_told}

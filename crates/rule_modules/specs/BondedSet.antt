@@ -13,7 +13,9 @@ use Rattle.base_roles.specs.declared.entities.Validator.{Validator}
 use Rattle.base_roles.specs.Orders.{same_addr}
 use Rattle.base_roles.specs.Staked.{Staked, is_bonded}
 use Rattle.base_roles.specs.Flow.{◌>>=◌, each}
-use Rattle.base_roles.specs.World.{View, Hook, bonded, Told, World, call, sent, over_view}
+use Rattle.base_roles.specs.World.{View, Told, World, call, sent, over_view}
+use Rattle.base_roles.specs.declared.calls.Hook.{Hook}
+use Rattle.base_roles.specs.declared.calls.Hook.TheVariants.{Bonded as bonded}
 use Rattle.rule_modules.specs.Amounts.{bond_coins, count_where}
 use Rattle.rule_modules.specs.Stakes.{is_unbonding, changed}
 use Rattle.rule_modules.specs.Unbonding.{removed_if_empty}

@@ -8,7 +8,8 @@ use Rattle.base_roles.specs.Log.{Log}
 use Rattle.base_roles.specs.Pair.{and_then, given_with}
 use Rattle.base_roles.specs.Staked.{Staked}
 use Rattle.base_roles.specs.Flow.{◌>>=◌, each}
-use Rattle.base_roles.specs.World.{View, Hook, Told, World, over_mine, over_view}
+use Rattle.base_roles.specs.World.{View, Told, World, over_mine, over_view}
+use Rattle.base_roles.specs.declared.calls.Hook.{Hook}
 use Rattle.rule_modules.specs.Allocation.{fees_allocated}
 use Rattle.rule_modules.specs.BondedSet.{set_updated, validators_matured}
 use Rattle.rule_modules.specs.Distribution.{Shared, distribution_told}

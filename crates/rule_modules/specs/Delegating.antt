@@ -14,7 +14,9 @@ use Rattle.base_roles.specs.declared.refusal.Refusal.TheVariants.{InsufficientFu
 use Rattle.base_roles.specs.Holdings.{is_short}
 use Rattle.base_roles.specs.Staked.{Staked, validator_at, delegation, put_validator}
 use Rattle.base_roles.specs.Flow.{◌>>=◌, ◌>>◌, stop_if, or_stop, stopping}
-use Rattle.base_roles.specs.World.{View, Hook, starting, modifying, modified, Told, World, call, sent, over_view, over_mine}
+use Rattle.base_roles.specs.World.{View, Told, World, call, sent, over_view, over_mine}
+use Rattle.base_roles.specs.declared.calls.Hook.{Hook}
+use Rattle.base_roles.specs.declared.calls.Hook.TheVariants.{Starting as starting, Modifying as modifying, Modified as modified}
 use Rattle.rule_modules.specs.Amounts.{bond_coins}
 use Rattle.rule_modules.specs.Stakes.{put_delegation, pool_of, refusal_of_shares}
 

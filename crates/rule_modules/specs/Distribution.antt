@@ -15,8 +15,9 @@ use Rattle.base_roles.specs.Items.{no_purse}
 use Rattle.base_roles.specs.Log.{Log}
 use Rattle.base_roles.specs.Log as log
 use Rattle.base_roles.specs.Flow.{◌>>=◌}
-use Rattle.base_roles.specs.World.{View, Hook, Told, gives, exceeds, noted, sent}
-use Rattle.base_roles.specs.World as hook
+use Rattle.base_roles.specs.World.{View, Told, gives, exceeds, noted, sent}
+use Rattle.base_roles.specs.declared.calls.Hook.{Hook}
+use Rattle.base_roles.specs.declared.calls.Hook.TheVariants as hook
 use Rattle.rule_modules.specs.Amounts.{is_empty, over_facts}
 use Rattle.rule_modules.specs.Periods.{Rewards, initial_records, periods_of, start_of, with_periods, without_periods, with_start, without_start, period_ended, last_ended, event_recorded, reward_at}
 use Rattle.rule_modules.specs.Purses.{Purses, purse_of, with_purse, pooled_told, current_emptied, current_pooled, paid_out, closed}
@@ -147,10 +148,10 @@ unlogged (Err over) = Err over
 -- What distribution's hooks tell (`hooks.go`): a created validator's records are made and a removed one's go; before a
 -- new delegation its period ends, before a change the reward is withdrawn, after it a start is made; a slash is recorded.
 abbrev pub distribution_told : Shared → Hook → View → Told Shared
-distribution_told d (hook.created val) v = gives (records_made val d) v ((val.operator, log.made) ∷ [])
-distribution_told d (hook.removed val) v = told_of (unlogged (records_removed val d v))
-distribution_told d (hook.bonded val) v = gives d v []
-distribution_told d (hook.starting val delegator) v = told_of (left_by (ended val d v))
-distribution_told d (hook.modifying val delegator shares) v = told_of (left_by (reward_withdrawn val delegator shares d v))
-distribution_told d (hook.modified val delegator shares) v = told_of (Ok (started val delegator shares d v))
-distribution_told d (hook.slashing val fraction) v = told_of (slash_recorded val fraction d v)
+distribution_told d (hook.Created val) v = gives (records_made val d) v ((val.operator, log.made) ∷ [])
+distribution_told d (hook.Removed val) v = told_of (unlogged (records_removed val d v))
+distribution_told d (hook.Bonded val) v = gives d v []
+distribution_told d (hook.Starting val delegator) v = told_of (left_by (ended val d v))
+distribution_told d (hook.Modifying val delegator shares) v = told_of (left_by (reward_withdrawn val delegator shares d v))
+distribution_told d (hook.Modified val delegator shares) v = told_of (Ok (started val delegator shares d v))
+distribution_told d (hook.Slashing val fraction) v = told_of (slash_recorded val fraction d v)

@@ -13,7 +13,8 @@ use Rattle.base_roles.specs.Entries.{at, with}
 use Rattle.base_roles.specs.Orders.{triple_cmp, same_addr}
 use Rattle.base_roles.specs.Staked.{Staked, validator_at, delegation, is_bonded}
 use Rattle.base_roles.specs.Flow.{◌>>=◌, ◌>>◌, stop_if, or_stop, stopping}
-use Rattle.base_roles.specs.World.{View, Hook, Told, World}
+use Rattle.base_roles.specs.World.{View, Told, World}
+use Rattle.base_roles.specs.declared.calls.Hook.{Hook}
 use Rattle.rule_modules.specs.Delegating.{is_wrong, pool, shares_given, delegated}
 use Rattle.rule_modules.specs.Stakes.{is_unbonding}
 use Rattle.rule_modules.specs.Unbonding.{shares_to_unbond, unbonded_shares}

@@ -9,7 +9,9 @@ use Rattle.base_roles.specs.Lent.{Unbonds, Following, jail_told}
 use Rattle.base_roles.specs.Log as log
 use Rattle.base_roles.specs.Staked.{Staked, validator_at, validator_by_cons, put_validator, is_unbonded}
 use Rattle.base_roles.specs.Flow.{◌>>=◌}
-use Rattle.base_roles.specs.World.{View, Hook, slashing, Told, World, call, noted, burnt, over_view, over_mine, logged}
+use Rattle.base_roles.specs.World.{View, Told, World, call, noted, burnt, over_view, over_mine, logged}
+use Rattle.base_roles.specs.declared.calls.Hook.{Hook}
+use Rattle.base_roles.specs.declared.calls.Hook.TheVariants.{Slashing as slashing}
 use Rattle.rule_modules.specs.Stakes.{pool_of}
 use Rattle.rule_modules.specs.Unbonding.{shares_unbonded}
 use Rattle.rule_modules.specs.Unbondings.{UnbondingLists}

@@ -12,8 +12,10 @@ use Rattle.base_roles.specs.Log as log
 use Rattle.base_roles.specs.Orders.{same_addr}
 use Rattle.base_roles.specs.Staked.{Staked, validator_at, delegation, put_validator, is_unbonded}
 use Rattle.base_roles.specs.Flow.{◌>>=◌, ◌>>◌, stop_if, or_stop, stopping}
-use Rattle.base_roles.specs.World.{View, Hook, modifying, modified, Told, World, call, noted, over_view, over_mine, logged}
-use Rattle.base_roles.specs.World as hook
+use Rattle.base_roles.specs.World.{View, Told, World, call, noted, over_view, over_mine, logged}
+use Rattle.base_roles.specs.declared.calls.Hook.{Hook}
+use Rattle.base_roles.specs.declared.calls.Hook.TheVariants.{Modifying as modifying, Modified as modified}
+use Rattle.base_roles.specs.declared.calls.Hook.TheVariants as hook
 use Rattle.rule_modules.specs.Stakes.{without_validator, put_delegation, without_shares}
 
 -- The shares that an amount stands for, behind all shares of the delegation (`ValidateUnbondAmount`). Refused without a
@@ -43,7 +45,7 @@ module _ {H : Type 0} (told : H → Hook → View → Told H) where
   -- The validator goes, then its last hook is called (`RemoveValidator`: `AfterValidatorRemoved`).
   abbrev pub validator_removed : Validator → World Staked H → Result (World Staked H) Over
   validator_removed v w = do
-    w1 ← call told (hook.removed v) (over_mine (without_validator v.operator) w)
+    w1 ← call told (hook.Removed v) (over_mine (without_validator v.operator) w)
     Ok (over_view (noted (fact.Removed v.operator)) w1)
 
   -- a validator that is unbonded and has no shares goes (`Unbond`: `validator.DelegatorShares.IsZero() && validator.IsUnbonded()`)

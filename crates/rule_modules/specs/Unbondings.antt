@@ -14,7 +14,8 @@ use Rattle.base_roles.specs.Entries.{at, with, without}
 use Rattle.base_roles.specs.Orders.{pair_cmp}
 use Rattle.base_roles.specs.Staked.{Staked, validator_at, delegation, is_bonded}
 use Rattle.base_roles.specs.Flow.{◌>>=◌, ◌>>◌, stop_if, or_stop, stopping}
-use Rattle.base_roles.specs.World.{View, Hook, Told, World, sent, over_view}
+use Rattle.base_roles.specs.World.{View, Told, World, sent, over_view}
+use Rattle.base_roles.specs.declared.calls.Hook.{Hook}
 use Rattle.rule_modules.specs.Amounts.{bond_coins, seconds}
 use Rattle.rule_modules.specs.Delegating.{is_wrong, pool, delegated}
 use Rattle.rule_modules.specs.Unbonding.{shares_to_unbond, unbonded_shares}

@@ -9,8 +9,9 @@ use Rattle.base_roles.specs.declared.refusal.Refusal.{Refusal}
 use Rattle.base_roles.specs.declared.refusal.Refusal.TheVariants.{WrongDenom, NonPositive, NoValidator, ValidatorExists, ConsKeyExists, CommissionRange, CommissionBelowMinimum, CommissionTooSoon, CommissionAboveMax, CommissionStep, MinSelfNotPositive, SelfBelowMinimum, MinSelfNotRaised, Overflow}
 use Rattle.base_roles.specs.Staked.{Staked, validator_at, validator_by_cons, put_validator}
 use Rattle.base_roles.specs.Flow.{◌>>=◌, ◌>>◌, stop_if, or_stop, stopping}
-use Rattle.base_roles.specs.World.{View, Hook, Told, World, call, over_mine}
-use Rattle.base_roles.specs.World as hook
+use Rattle.base_roles.specs.World.{View, Told, World, call, over_mine}
+use Rattle.base_roles.specs.declared.calls.Hook.{Hook}
+use Rattle.base_roles.specs.declared.calls.Hook.TheVariants as hook
 use Rattle.rule_modules.specs.Amounts.{seconds}
 use Rattle.rule_modules.specs.Delegating.{is_wrong, wallet, delegated}
 
@@ -37,7 +38,7 @@ are_out_of_range m = nat_lt (10 ^ 18) m.max_rate || nat_lt m.max_rate m.rate || 
 module _ {H : Type 0} (told : H → Hook → View → Told H) where
   -- a validator is there, and its first hook is called (`CreateValidator`: `AfterValidatorCreated`)
   abbrev pub stored : Validator → World Staked H → Result (World Staked H) Over
-  stored v w = call told (hook.created v) (over_mine (put_validator v) w)
+  stored v w = call told (hook.Created v) (over_mine (put_validator v) w)
 
   -- A validator is created, then its operator delegates to it from the wallet (`msgServer.CreateValidator`).
   abbrev pub created : CreateValidator → World Staked H → Result (⊤ × World Staked H) Refusal

@@ -16,8 +16,9 @@ use Rattle.base_roles.specs.declared.refusal.Refusal.TheVariants.{NoValidator, N
 use Rattle.base_roles.specs.Entries.{at, with}
 use Rattle.base_roles.specs.Staked.{Staked, validator_at, validator_by_cons, delegation, put_validator, is_unbonded}
 use Rattle.base_roles.specs.Flow.{◌>>=◌, ◌>>◌, stop_if, or_stop}
-use Rattle.base_roles.specs.World.{View, Hook, Told, gives, World, noted}
-use Rattle.base_roles.specs.World as hook
+use Rattle.base_roles.specs.World.{View, Told, gives, World, noted}
+use Rattle.base_roles.specs.declared.calls.Hook.{Hook}
+use Rattle.base_roles.specs.declared.calls.Hook.TheVariants as hook
 use Rattle.rule_modules.specs.Amounts.{count_where, seconds}
 use Rattle.rule_modules.specs.Slashing.{Slashes, jail_lent}
 
@@ -69,13 +70,13 @@ signing_started height cons i = with cons_cmp i cons (begun_at height (signing_o
 
 -- what the window's hooks tell: a record begins where a validator is bonded, and else nothing
 abbrev pub window_told : Window → Hook → View → Told Window
-window_told i (hook.bonded v) w = gives (signing_started w.ctx.height v.cons i) w []
-window_told i (hook.created v) w = gives i w []
-window_told i (hook.removed v) w = gives i w []
-window_told i (hook.starting v delegator) w = gives i w []
-window_told i (hook.modifying v delegator shares) w = gives i w []
-window_told i (hook.modified v delegator shares) w = gives i w []
-window_told i (hook.slashing v fraction) w = gives i w []
+window_told i (hook.Bonded v) w = gives (signing_started w.ctx.height v.cons i) w []
+window_told i (hook.Created v) w = gives i w []
+window_told i (hook.Removed v) w = gives i w []
+window_told i (hook.Starting v delegator) w = gives i w []
+window_told i (hook.Modifying v delegator shares) w = gives i w []
+window_told i (hook.Modified v delegator shares) w = gives i w []
+window_told i (hook.Slashing v fraction) w = gives i w []
 
 -- ---- a window that changes
 

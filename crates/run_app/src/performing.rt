@@ -1,6 +1,6 @@
 //! What words ask for: a command, in the way that the words before it say.
 
-ghost use Rattle.std.specs.Prelude.{◌≡◌, ◌<◌, true};
+ghost use Rattle.std.specs.Prelude.{◌≡◌, ◌<◌, true, false};
 ghost use Rattle.run_app.specs.Commands.{WayEnds, WayUnkept, kept_way, past_way, way_of};
 ghost use Rattle.run_app.specs.Counts.{Moved, ReadMoved, is_keep_fault, is_write_fault};
 ghost use Rattle.run_app.specs.Modes.{HasFewBlocks};
@@ -81,8 +81,8 @@ pub(crate) fn perform<S: Source, K: Sink, D: Keeper>(
     requires every { 0 < command.every }
     requires few { HasFewBlocks command.mode }
     requires takes { TakesDistinct (D.takes keeper.old) }
-    ensures ends { WayEnds command.form command.every (way_of command) (by_source S.left source.old source.new)
-        (by_sink K.written sink.old sink.new)
+    ensures ends { WayEnds command.form command.every (way_of command)
+        (by_source S.left source.old source.new) (by_sink K.written sink.old sink.new)
         (by_keeper D.rows D.is_honest D.may_leave keeper.old keeper.new) result }
     ensures busy { result ≡ Status.Usage → ⊥ }
     ensures unkept { D.keeps keeper.old ≡ false → WayUnkept (way_of command)

@@ -8,7 +8,7 @@ use Rattle.base_coins.specs.Coins.{Money}
 use Rattle.base_roles.specs.declared.{messages.{Evidence.Evidence, Vote.Vote}, params.Ctx.Ctx, refusal.Refusal.Refusal}
 use Rattle.base_roles.specs.declared.refusal.Refusal.TheVariants.{FeeUnpaid}
 use Rattle.base_roles.specs.{Flow.{◌>>=◌, ◌>>◌, each, stop_if, stopping}, Holdings.{coins_of, is_short}, Staked.Staked}
-use Rattle.base_roles.specs.World.{View, Hook, Told, World, sent}
+use Rattle.base_roles.specs.{World.{View, Told, World, sent}, declared.calls.Hook.Hook}
 use Rattle.base_messages.specs.declared.{block.{Block.Block, Tx.Tx}, faults.BlockFault.BlockFault}
 use Rattle.base_messages.specs.declared.{faults.BlockFault.TheVariants.RatioLimit, message.Msg.Msg}
 use Rattle.base_messages.specs.declared.report.BlockReport.{BlockReport}

@@ -12,7 +12,7 @@ use Rattle.base_roles.specs.declared.{params.{Ctx.Ctx, Params.Params}, refusal.R
 use Rattle.base_roles.specs.declared.refusal.Refusal.TheVariants.{InsufficientFunds, ModuleRecipient, NoCommission, NoDelegation, NoSelfDelegation, NoValidator, NonPositive, NotAuthority, NotJailed, Overflow, PoolTooSmall, SelfBelowMinimum, WithdrawFixed}
 use Rattle.base_roles.specs.{Entries.at, Flow.{◌>>=◌, ◌>>◌, or_stop, stop_if, stopping}, Holdings.is_short, Log.Log}
 use Rattle.base_roles.specs.{Orders.same_addr, Staked.{Staked, delegation, put_validator, validator_at}}
-use Rattle.base_roles.specs.World.{View, Hook, Told, World, noted}
+use Rattle.base_roles.specs.{World.{View, Told, World, noted}, declared.calls.Hook.Hook}
 use Rattle.base_messages.specs.declared.message.Msg.{Msg}
 use Rattle.base_messages.specs.declared.message.Msg.TheVariants as msg
 use Rattle.rule_modules.specs.{Amounts.{in_units, is_empty}, BondedSet.{set_updated, validators_matured}}

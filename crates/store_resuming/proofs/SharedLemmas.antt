@@ -5,10 +5,10 @@ use Rattle.base_coins.specs.Coins.{Money, fractions, smaller_of, whole_coins}
 use Rattle.base_shares.specs.Shares.{value_cut_of, value_even_of}
 use Rattle.base_roles.specs.{declared.entities.{StartingInfo.StartingInfo, Validator.Validator}, Flow.{◌>>=◌}}
 use Rattle.base_roles.specs.{Items.no_purse, Log.Log, Pair.{and_then, given_with}}
-use Rattle.base_roles.specs.World.{View, Hook, Told, gives, exceeds, noted}
+use Rattle.base_roles.specs.{World.{View, Told, gives, exceeds, noted}, declared.calls.Hook.Hook}
 use Rattle.base_roles.specs.declared.facts.Fact.TheVariants as fact
 use Rattle.base_roles.specs.Log as log
-use Rattle.base_roles.specs.World as hook
+use Rattle.base_roles.specs.declared.calls.Hook.TheVariants as hook
 use Rattle.rule_modules.specs.{Amounts.over_facts, Chain.{Hooks, chain_told}}
 use Rattle.rule_modules.specs.Distribution.{Shared, current_taken, distribution_told, ended, left_by, paid_to, payee_of, pending, records_made, records_removed, reward_due, reward_renewed, reward_withdrawn, slash_recorded, started, told_of, unlogged}
 use Rattle.rule_modules.specs.Periods.{Periods, Rewards, event_recorded, initial_records, last_ended, period_ended, periods_of, reward_at, start_of, with_periods, with_start, without_start}
@@ -206,17 +206,17 @@ unlogged_alike (Err d) (Ok q) h = absurd h
 unlogged_alike (Err d) (Err e) h = h
 
 pub distribution_tells : TellAlike SharedAlike distribution_told
-distribution_tells d e a (hook.created val) v = (made_alike val d e a, refl, refl)
-distribution_tells d e a (hook.removed val) v =
+distribution_tells d e a (hook.Created val) v = (made_alike val d e a, refl, refl)
+distribution_tells d e a (hook.Removed val) v =
     told_alike (unlogged (records_removed val d v)) (unlogged (records_removed val e v)) (unlogged_alike (records_removed val d v) (records_removed val e v) (removed_alike val d e v a))
-distribution_tells d e a (hook.bonded val) v = (a, refl, refl)
-distribution_tells d e a (hook.starting val delegator) v =
+distribution_tells d e a (hook.Bonded val) v = (a, refl, refl)
+distribution_tells d e a (hook.Starting val delegator) v =
     told_alike (left_by (ended val d v)) (left_by (ended val e v)) (left_alike (ended val d v) (ended val e v) (weaker_alike (EndedAlike val) FourAlike (ended val d v) (ended val e v) (λ p q h. h.0) (ended_alike val d e v a)))
-distribution_tells d e a (hook.modifying val delegator shares) v =
+distribution_tells d e a (hook.Modifying val delegator shares) v =
     told_alike (left_by (reward_withdrawn val delegator shares d v)) (left_by (reward_withdrawn val delegator shares e v))
     (left_alike (reward_withdrawn val delegator shares d v) (reward_withdrawn val delegator shares e v) (withdrawn_alike val delegator shares d e v a))
-distribution_tells d e a (hook.modified val delegator shares) v = let h = started_alike val delegator shares d e v a in (h.0, h.1, h.2)
-distribution_tells d e a (hook.slashing val fraction) v = told_alike (slash_recorded val fraction d v) (slash_recorded val fraction e v) (slash_alike val fraction d e v a)
+distribution_tells d e a (hook.Modified val delegator shares) v = let h = started_alike val delegator shares d e v a in (h.0, h.1, h.2)
+distribution_tells d e a (hook.Slashing val fraction) v = told_alike (slash_recorded val fraction d v) (slash_recorded val fraction e v) (slash_alike val fraction d e v a)
 
 -- what all hooks hold: records of distribution that are alike, and signing records of which the last votes of a window are the same
 abbrev pub HooksAlike : ℕ → Hooks → Hooks → Type 0

@@ -2,8 +2,8 @@
 -- each what they do with both, and so give what is alike.
 use Rattle.std.proofs.Common.{◌≡◌, ◌∙◌, List, [], ◌∷◌, ◌++◌, Result, Ok, Err, refl, sym, ap, subst, append-nil, IfOk}
 use Rattle.base_decimals.specs.declared.over.Over.{Over}
-use Rattle.base_roles.specs.{Flow.{◌>>=◌, ◌>>◌, each, stopping}, Log.Log}
-use Rattle.base_roles.specs.World.{View, Hook, Told, gives, exceeds, World}
+use Rattle.base_roles.specs.{Flow.{◌>>=◌, ◌>>◌, each, stopping}, Log.Log, World.{View, Told, gives, exceeds, World}}
+use Rattle.base_roles.specs.declared.calls.Hook.{Hook}
 use Rattle.chain_modules.proofs.CarryLemmas.{carried_ok, told_carried}
 
 -- ---- answers

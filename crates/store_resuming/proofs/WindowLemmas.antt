@@ -7,10 +7,10 @@ use Rattle.base_types.specs.Orders.{cons_cmp}
 use Rattle.base_roles.specs.declared.entities.{SigningInfo.SigningInfo, Validator.Validator}
 use Rattle.base_roles.specs.declared.{messages.{Evidence.Evidence, Vote.Vote}, params.Ctx.Ctx, refusal.Refusal.Refusal}
 use Rattle.base_roles.specs.{declared.refusal.Refusal.TheVariants.{StillJailed, Tombstoned}, Entries.with}
-use Rattle.base_roles.specs.{Flow.{◌>>=◌, ◌>>◌, stop_if}, Staked.{is_unbonded, validator_by_cons}}
-use Rattle.base_roles.specs.World.{View, Hook, World}
+use Rattle.base_roles.specs.{Flow.{◌>>=◌, ◌>>◌, stop_if}, Staked.{is_unbonded, validator_by_cons}, World.{View, World}}
+use Rattle.base_roles.specs.declared.calls.Hook.{Hook}
 use Rattle.base_roles.specs.declared.facts.Fact.TheVariants as fact
-use Rattle.base_roles.specs.World as hook
+use Rattle.base_roles.specs.declared.calls.Hook.TheVariants as hook
 use Rattle.rule_modules.specs.Amounts.{count_where}
 use Rattle.rule_modules.specs.Evidence.{banned, banned_of, equivocation_handled, evidence_weighed, forever, is_too_old, window_bans}
 use Rattle.rule_modules.specs.Slashing.{Slashes}
@@ -115,13 +115,13 @@ started_alike window height cons i j h =
 
 -- what hooks tell of like records is alike
 pub window_tells : (window : ℕ) (i j : Window) → WindowsAlike window i j → (h : Hook) (v : View) → ToldAlike (WindowsAlike window) (window_told i h v) (window_told j h v)
-window_tells window i j a (hook.created x) v = (a, refl, refl)
-window_tells window i j a (hook.removed x) v = (a, refl, refl)
-window_tells window i j a (hook.bonded x) v = (started_alike window v.ctx.height x.cons i j a, refl, refl)
-window_tells window i j a (hook.starting x who) v = (a, refl, refl)
-window_tells window i j a (hook.modifying x who shares) v = (a, refl, refl)
-window_tells window i j a (hook.modified x who shares) v = (a, refl, refl)
-window_tells window i j a (hook.slashing x fraction) v = (a, refl, refl)
+window_tells window i j a (hook.Created x) v = (a, refl, refl)
+window_tells window i j a (hook.Removed x) v = (a, refl, refl)
+window_tells window i j a (hook.Bonded x) v = (started_alike window v.ctx.height x.cons i j a, refl, refl)
+window_tells window i j a (hook.Starting x who) v = (a, refl, refl)
+window_tells window i j a (hook.Modifying x who shares) v = (a, refl, refl)
+window_tells window i j a (hook.Modified x who shares) v = (a, refl, refl)
+window_tells window i j a (hook.Slashing x fraction) v = (a, refl, refl)
 
 -- ---- another window
 

@@ -1,9 +1,11 @@
 -- The missed places of a window, and the window that they make.
-use Rattle.std.proofs.Common.{◌≡◌, ◌∙◌, ℕ, zero, suc, ◌+◌, ◌-◌, ◌<◌, ◌≤◌, ltb, leb, Bool, true, false, List, [], ◌∷◌, ◌++◌, length, get_or, take, drop, replicate, refl, sym, ap, ap₂, append_assoc, arith, flat_map, le-leb, leb-true, lt-ltb, ltb-true, append-nil, length-append, length-take, take-append-drop, take_all}
-use Rattle.std.{specs.List.AllByRecursion, proofs.lemmas.Bool.{and_from, and_parts}}
+use Rattle.std.proofs.Common.{◌≡◌, ◌∙◌, ℕ, zero, suc, ◌+◌, ◌-◌, ◌*◌, ◌<◌, ◌≤◌, ltb, leb, Bool, true, false, List, [], ◌∷◌, ◌++◌, length, get_or, take, drop, replicate, refl, sym, ap, ap₂, append_assoc, arith, flat_map, le-leb, leb-true, lt-ltb, ltb-true, append-nil, length-append, length-take, take-append-drop, take_all}
+use Rattle.std.{specs.List.{AllByRecursion, splice}, proofs.lemmas.Bool.{and_from, and_parts}}
+use Rattle.std.proofs.Math.Seq.{drop-append_seam, take-append_seam}
 use Rattle.std.proofs.lemmas.List.{drop_all, drop_more, length-replicate, replicate_more, take_more}
 use Rattle.std.proofs.lemmas.Grind.{flat_map-append}
-use Rattle.store_rows.specs.{Fields.{four_bytes, missed_from, missed_of}, Reading.{are_places, comes_next, places_with}}
+use Rattle.store_rows.specs.Fields.{four_bytes, missed_from, missed_of, missed_ring_bytes}
+use Rattle.store_rows.specs.Reading.{are_places, comes_next, places_with}
 
 -- ---- the missed places of a window
 
@@ -84,6 +86,43 @@ part_written out new n k left part others whole is rest size written so_far =
     ∙ ap (λ (m : ℕ). out ++ flat_map four_bytes (missed_from n part ++ missed_from (n + m) others)) (sym size)
     ∙ ap (λ (ms : List ℕ). out ++ flat_map four_bytes ms) (sym (missed_parts n part others) ∙ ap (missed_from n) split)
     ∙ so_far
+
+-- ---- a count that is set behind the numbers that it counts
+
+four_long : (n : ℕ) → length (four_bytes n) ≡ 4
+unfolding four_bytes
+four_long n = refl
+
+pub each_long : (ns : List ℕ) → length (flat_map four_bytes ns) ≡ 4 * length ns
+each_long [] = refl
+each_long (n ∷ ns) = omega (arith, length-append (four_bytes n) (flat_map four_bytes ns), four_long n, each_long ns)
+
+-- the bytes behind the room for a count tell it
+pub count_told : (out roomy new : List ℕ) (ns : List ℕ) → roomy ≡ out ++ four_bytes 0 → new ≡ roomy ++ flat_map four_bytes ns → (length roomy ≡ length out + 4) × (length new ≡ length roomy + 4 * length ns)
+count_told out roomy new ns room written = (
+  omega (arith, ap length room, length-append out (four_bytes 0), four_long 0),
+  omega (arith, ap length written, length-append roomy (flat_map four_bytes ns), each_long ns),
+)
+
+counted_behind : (out rest : List ℕ) (n : ℕ) → splice ((out ++ four_bytes 0) ++ rest) (length out) (length out + 4) (four_bytes n) ≡ out ++ (four_bytes n ++ rest)
+counted_behind out rest n =
+    let room = four_bytes 0 in
+    let e : length out + 4 ≡ length (out ++ room) = omega (arith, length-append out room, four_long 0) in
+    ap (λ (f : List ℕ). f ++ (four_bytes n ++ drop (length out + 4) ((out ++ room) ++ rest))) (ap (take (length out)) (append_assoc out room rest) ∙ take-append_seam out (room ++ rest))
+    ∙ ap (λ (k : ℕ). out ++ (four_bytes n ++ drop k ((out ++ room) ++ rest))) e
+    ∙ ap (λ (r : List ℕ). out ++ (four_bytes n ++ r)) (drop-append_seam (out ++ room) rest)
+
+pub ring_written : (front out roomy new last : List ℕ) (ps : List Bool) (at count : ℕ) → out ≡ front ++ four_bytes (length ps) → at ≡ length out → roomy ≡ out ++ four_bytes 0 → new ≡ roomy ++ flat_map four_bytes (missed_of ps) → count ≡ length (missed_of ps)
+    → last ≡ splice new at (at + 4) (four_bytes count) → last ≡ front ++ missed_ring_bytes ps
+ring_written front out roomy new last ps at count size place room written told set =
+    let rest = flat_map four_bytes (missed_of ps) in
+    let whole : new ≡ (out ++ four_bytes 0) ++ rest = written ∙ ap (λ (w : List ℕ). w ++ rest) room in
+    set
+    ∙ ap (λ (w : List ℕ). splice w at (at + 4) (four_bytes count)) whole
+    ∙ ap₂ (λ (k n : ℕ). splice ((out ++ four_bytes 0) ++ rest) k (k + 4) (four_bytes n)) place told
+    ∙ counted_behind out rest (length (missed_of ps))
+    ∙ ap (λ (o : List ℕ). o ++ (four_bytes (length (missed_of ps)) ++ rest)) size
+    ∙ append_assoc front (four_bytes (length ps)) (four_bytes (length (missed_of ps)) ++ rest)
 
 -- ---- places that ascend
 

@@ -2,7 +2,7 @@
 
 ghost use Rattle.std.specs.Prelude.{◌≡◌, ◌<◌, ◌≤◌, ◌+◌, ◌-◌, ◌^◌, ◌++◌, ◌∷◌, [], false, length, replicate, true, Ok, IfErr, IfOk, OnOk};
 ghost use Rattle.std.specs.Int.{w32};
-ghost use Rattle.std.specs.List.{flat_map};
+ghost use Rattle.std.specs.List.{flat_map, splice};
 ghost use Rattle.store_rows.specs.Fields.{four_bytes, missed_from, missed_of, missed_ring_bytes};
 ghost use Rattle.store_rows.specs.Reading.{Gives, are_places, comes_next, each_at, missed_ring_at, number_at, places_with};
 
@@ -184,12 +184,28 @@ fn push_each_missed(out: &mut Vec<u8>, places: &[bool]) -> Result<(), AllocError
     push_missed_from(out, first, left)
 }
 
-/// Appends a ring of places.
+/// Writes a number of elements over the four bytes from this place on.
+#[tactic(auto, unfolding(crate::specs::Fields::four_bytes))]
+fn set_len(out: &mut [u8], at: usize, len: usize)
+    requires within { at + 4 ≤ length out.old }
+    requires len { len < 2 ^ 32 }
+    ensures { out.new ≡ splice out.old at (at + 4) (four_bytes len) }
+{
+    out[at..at + 4].copy_from_slice(&(len as u32).to_be_bytes());
+}
+
+/// Appends a ring of places. Its missed places are counted by the bytes that they took, so each place is
+/// looked at once.
 pub(crate) fn push_missed_ring(out: &mut Vec<u8>, places: &[bool]) -> Result<(), AllocError>
     requires { length places.now < 2 ^ 32 }
     ensures { OnOk result (out.new.items ≡ out.old.items ++ missed_ring_bytes places.now) }
 {
     push_len(out, places.len())?;
-    push_len(out, missed_count(places))?;
-    push_each_missed(out, places)
+    let room = out.len();
+    push_len(out, 0)?;
+    let from = out.len();
+    push_each_missed(out, places)?;
+    let count = (out.len() - from) / 4;
+    set_len(out.as_mut_slice(), room, count);
+    Ok(())
 }

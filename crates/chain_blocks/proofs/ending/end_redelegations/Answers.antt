@@ -2,8 +2,7 @@ use Rattle.std.proofs.Common.{refl}
 use Rattle.chain_modules.{specs.{declared.modules.Modules.Modules, Kept.kept_of}, proofs.SceneLemmas.redelegation_scene}
 use Rattle.rule_modules.specs.Chain.{redelegations_step}
 use Rattle.chain_transactions.proofs.GoLemmas.{all_on, ground_stays}
-use Rattle.chain_blocks.proofs.EndLemmas.{redelegations_lead, redelegations_next, step_leads}
-use Rattle.chain_blocks.proofs.TakesLemmas.{takes}
+use Rattle.chain_blocks.proofs.{EndLemmas.{redelegations_lead, redelegations_next, step_leads}, TakesLemmas.takes}
 use Rattle.chain_blocks.proofs.ending.end_redelegations.Goals as goal
 
 pub complete-requires : goal.complete-requires

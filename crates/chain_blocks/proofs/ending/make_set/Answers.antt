@@ -2,8 +2,7 @@ use Rattle.base_roles.proofs.StakeLemmas.{on_ok}
 use Rattle.rule_machine.specs.Listening.{set_heard, unheard}
 use Rattle.chain_modules.{specs.Kept.kept_of, proofs.{ErasingLemmas.set_unheard, SceneLemmas.stake_scene}}
 use Rattle.rule_modules.specs.Chain.{set_step}
-use Rattle.chain_blocks.proofs.{HearLemmas.whole_hears, EndLemmas.{set_next, step_leads}}
-use Rattle.chain_blocks.proofs.TakesLemmas.{takes}
+use Rattle.chain_blocks.proofs.{HearLemmas.whole_hears, EndLemmas.{set_next, step_leads}, TakesLemmas.takes}
 use Rattle.chain_blocks.proofs.ending.make_set.Goals as goal
 
 pub update_set-requires : goal.update_set-requires

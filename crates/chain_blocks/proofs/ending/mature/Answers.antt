@@ -4,8 +4,7 @@ use Rattle.chain_modules.proofs.{HookLemmas.held_as, SceneLemmas.hooked_kept}
 use Rattle.rule_modules.specs.Chain.{maturing_step}
 use Rattle.chain_transactions.proofs.GoLemmas.{all_on, listener_behind, unheard}
 use Rattle.chain_blocks.proofs.HearLemmas.{matured_apart, matured_hears}
-use Rattle.chain_blocks.proofs.EndLemmas.{matured_leads, maturing_next, step_leads}
-use Rattle.chain_blocks.proofs.TakesLemmas.{takes}
+use Rattle.chain_blocks.proofs.{EndLemmas.{matured_leads, maturing_next, step_leads}, TakesLemmas.takes}
 use Rattle.chain_blocks.proofs.ending.mature.Goals as goal
 
 pub mature_validators-requires : goal.mature_validators-requires

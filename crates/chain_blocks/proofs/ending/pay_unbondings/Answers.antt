@@ -3,8 +3,7 @@ use Rattle.chain_modules.specs.{declared.modules.Modules.Modules, Kept.kept_of}
 use Rattle.chain_modules.proofs.SceneLemmas.{entries_account, ground_kept, unbonding_scene}
 use Rattle.rule_modules.specs.Chain.{unbondings_step}
 use Rattle.chain_transactions.proofs.GoLemmas.{all_on}
-use Rattle.chain_blocks.proofs.EndLemmas.{step_leads, unbondings_lead, unbondings_next}
-use Rattle.chain_blocks.proofs.TakesLemmas.{takes}
+use Rattle.chain_blocks.proofs.{EndLemmas.{step_leads, unbondings_lead, unbondings_next}, TakesLemmas.takes}
 use Rattle.chain_blocks.proofs.ending.pay_unbondings.Goals as goal
 
 pub complete-requires-clause-entries : goal.complete-requires-clause-entries

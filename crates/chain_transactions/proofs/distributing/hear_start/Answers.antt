@@ -1,5 +1,6 @@
 use Rattle.std.proofs.Common.{◌≡◌, true, false, refl}
-use Rattle.base_roles.{specs.{Owing.Lists, World.modified}, proofs.ListenLemmas.quiet_may}
+use Rattle.base_roles.specs.{Owing.Lists, declared.{calls.{Hook.{TheVariants.{Modified as modified}}}}}
+use Rattle.base_roles.proofs.ListenLemmas.{quiet_may}
 use Rattle.chain_modules.specs.{declared.modules.Modules.Modules, Kept.ground_of}
 use Rattle.chain_modules.proofs.ListeningLemmas.{listened, listened_ok}
 use Rattle.chain_transactions.proofs.GoLemmas.{all_on, heard_kept, heard_wants}

@@ -1,6 +1,5 @@
 use Rattle.std.proofs.Common.{◌∙◌, ◌+◌, ◌*◌, refl, sym, arith, length-set, slice_index, Some}
-use Rattle.base_types.specs.Address.{bytes_of}
-use Rattle.base_types.proofs.DigitLemmas.{after_nothing, read_done, address_of-forty}
+use Rattle.base_types.{specs.Address.bytes_of, proofs.DigitLemmas.{after_nothing, read_done, address_of-forty}}
 use Rattle.line_compact.proofs.AddressLemmas.{high_small, low_small, two_more}
 use Rattle.line_compact.proofs.addresses.read_bytes.Goals as goal
 

@@ -1,7 +1,6 @@
 use Rattle.std.proofs.Common.{arith, subst, sym, decimal}
 use Rattle.serde_json.specs.Data.{string}
-use Rattle.line_compact.specs.Begins.{Begins}
-use Rattle.line_compact.proofs.BeginLemmas.{amount_begins}
+use Rattle.line_compact.{specs.Begins.Begins, proofs.BeginLemmas.amount_begins}
 use Rattle.line_compact.proofs.pieces.amount.Goals as goal
 
 pub returns : goal.returns

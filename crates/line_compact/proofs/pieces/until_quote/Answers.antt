@@ -1,6 +1,5 @@
 use Rattle.std.proofs.Common.{arith, sym}
-use Rattle.line_compact.specs.Pieces.{stands_for_itself}
-use Rattle.line_compact.proofs.PieceLemmas.{cut_at, one_more_passes}
+use Rattle.line_compact.{specs.Pieces.stands_for_itself, proofs.PieceLemmas.{cut_at, one_more_passes}}
 use Rattle.line_compact.proofs.pieces.until_quote.Goals as goal
 
 pub loop-at-preserved : goal.loop-at-preserved

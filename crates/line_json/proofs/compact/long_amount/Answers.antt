@@ -1,5 +1,4 @@
-use Rattle.line_json.specs.Members.{amount_of}
-use Rattle.line_json.proofs.CompactLemmas.{word_spelled}
+use Rattle.line_json.{specs.Members.amount_of, proofs.CompactLemmas.word_spelled}
 use Rattle.line_json.proofs.compact.long_amount.Goals as goal
 
 pub returns : goal.returns

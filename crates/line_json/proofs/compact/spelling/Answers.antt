@@ -1,6 +1,5 @@
 use Rattle.base_bech32.specs.declared.form.Form.TheVariants.{Bech32}
-use Rattle.line_json.specs.Addresses.{bytes_in}
-use Rattle.line_json.proofs.CompactLemmas.{word_spelled}
+use Rattle.line_json.{specs.Addresses.bytes_in, proofs.CompactLemmas.word_spelled}
 use Rattle.line_json.proofs.compact.spelling.Goals as goal
 
 pub returns : goal.returns

@@ -1,5 +1,5 @@
-use Rattle.std.proofs.Common.{◌≡◌, [], subst, sym}
-use Rattle.std.proofs.lemmas.{Bool.eqb-true, List.nil_from_length}
+use Rattle.std.proofs.Common.{◌≡◌, [], subst, sym, eqb-true}
+use Rattle.std.proofs.lemmas.List.{nil_from_length}
 use Rattle.line_json.specs.{Block.{evidence_of, tx_of, vote_of}, Compact.IsCompactList}
 use Rattle.line_json.proofs.CompactBlockLemmas.{block_is_compact}
 use Rattle.line_json.proofs.compact_block.block.Goals as goal

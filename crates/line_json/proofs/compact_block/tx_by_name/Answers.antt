@@ -1,6 +1,5 @@
 use Rattle.std.proofs.Common.{subst, sym}
-use Rattle.line_json.specs.{Compact.IsCompactList, Messages.message_of}
-use Rattle.line_json.proofs.CompactLemmas.{amounts_below}
+use Rattle.line_json.{specs.{Compact.IsCompactList, Messages.message_of}, proofs.CompactLemmas.amounts_below}
 use Rattle.line_json.proofs.CompactBlockLemmas.{tx_is_compact_by_name}
 use Rattle.line_json.proofs.compact_block.tx_by_name.Goals as goal
 

@@ -1,5 +1,4 @@
-use Rattle.line_json.proofs.CompactLemmas.{amounts_below}
-use Rattle.line_json.proofs.CompactMessageLemmas.{send_is_compact_by_name}
+use Rattle.line_json.proofs.{CompactLemmas.amounts_below, CompactMessageLemmas.send_is_compact_by_name}
 use Rattle.line_json.proofs.compact_messages.send_by_name.Goals as goal
 
 pub money-requires : goal.money-requires

@@ -1,5 +1,6 @@
 use Rattle.std.proofs.Common.{sym, subst}
-use Rattle.base_roles.specs.{Ground.seen, Hooks.Stand, Staked.lists_of, World.bonded}
+use Rattle.base_roles.specs.{Ground.seen, Hooks.Stand, Staked.lists_of}
+use Rattle.base_roles.specs.declared.calls.Hook.TheVariants.{Bonded as bonded}
 use Rattle.base_roles.proofs.HookLemmas.{stand-noted, Stand-after_ok, picked}
 use Rattle.mod_staking.proofs.{DelegateLemmas.keeps-ok, GroundLemmas.{keeps-noted, keeps_then}}
 use Rattle.mod_bonded_set.proofs.JoinLemmas.{in_set, changed_is, lists-joined_set, ready-bonded, sure_bonded_fault, nothing_kept}

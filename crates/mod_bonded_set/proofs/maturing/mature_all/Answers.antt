@@ -1,10 +1,11 @@
-use Rattle.std.proofs.Common.{◌≡◌, ◌∙◌, ◌+◌, [], drop, refl, ap, sym, subst, arith, rules, Err, IfErr}
+use Rattle.std.proofs.Common.{◌≡◌, ◌∙◌, ◌+◌, [], drop, ap, sym, subst, arith, rules, Err, IfErr}
 use Rattle.std.{proofs.lemmas.List.drop_all, specs.Map.values_of}
 use Rattle.base_roles.specs.declared.faults.HookFault.TheVariants as hook
 use Rattle.base_roles.specs.{Ground.seen, Flow.each, Staked.validator_at}
 use Rattle.rule_modules.{specs.{Answers.Leaves, BondedSet.matured}, proofs.OperatorLemmas.values_own}
 use Rattle.mod_staking.specs.Calls.{behind_log}
-use Rattle.mod_bonded_set.{specs.{Calls.AllStays, Sets.is_due}, proofs.LoopLemmas.{next_of, fine, stays-none, stays-of, stays-then}}
+use Rattle.mod_bonded_set.specs.{Calls.AllStays, Sets.is_due}
+use Rattle.mod_bonded_set.proofs.LoopLemmas.{next_of, fine, stays-none, stays-of, stays-then}
 use Rattle.mod_bonded_set.proofs.MatureLemmas.{matured-first, matured-stopped, matured-all, next-due, matured-more, others-stand}
 use Rattle.mod_bonded_set.proofs.{StakeLemmas.{sound_ascend, sound_keyed}, StandLemmas.all_stand}
 use Rattle.mod_bonded_set.proofs.maturing.mature_all.Goals as goal

@@ -3,8 +3,7 @@ use Rattle.std.specs.Map.{values_of}
 use Rattle.base_roles.specs.Ground.{seen}
 use Rattle.rule_modules.specs.Amounts.{count_where}
 use Rattle.mod_staking.specs.Scenes.{IsHooked}
-use Rattle.mod_bonded_set.specs.{Calls.AllStays, Sets.goes_at}
-use Rattle.mod_bonded_set.proofs.{MatureLemmas.AreMaturing, LoopLemmas.fine}
+use Rattle.mod_bonded_set.{specs.{Calls.AllStays, Sets.goes_at}, proofs.{MatureLemmas.AreMaturing, LoopLemmas.fine}}
 use Rattle.mod_bonded_set.proofs.maturing.mature_all.Given as goal
 
 abbrev pub invariant-loop-operator : goal.invariant-loop-operator

@@ -1,9 +1,8 @@
 use Rattle.std.proofs.Common.{◌∙◌, ap, arith, not, option_map}
 use Rattle.base_types.specs.Orders.{addr_cmp}
 use Rattle.base_table.specs.Tabled.{entry_above}
-use Rattle.mod_staking.specs.Places.{standing, bonded_place, in_order}
-use Rattle.mod_staking.specs.KnownSet.{is_within}
-use Rattle.mod_bonded_set.{proofs.StakeLemmas.{sound_ascend, sound_keyed}}
+use Rattle.mod_staking.specs.{Places.{standing, bonded_place, in_order}, KnownSet.is_within}
+use Rattle.mod_bonded_set.proofs.StakeLemmas.{sound_ascend, sound_keyed}
 use Rattle.mod_bonded_set.proofs.PassedLemmas.{left-step, left-less, left-leaving, bonded_count}
 use Rattle.mod_bonded_set.proofs.set.who_leaves.Goals as goal
 

@@ -1,9 +1,8 @@
 use Rattle.std.proofs.Common.{◌+◌, ◌*◌, ◌≤◌, length, not, option_map}
 use Rattle.base_types.specs.Orders.{addr_cmp}
 use Rattle.base_records.proofs.WalkLemmas.{left_of}
-use Rattle.mod_staking.specs.Places.{standing, bonded_place, in_order}
-use Rattle.mod_staking.specs.KnownSet.{is_within}
-use Rattle.mod_bonded_set.{proofs.PassedLemmas.Left}
+use Rattle.mod_staking.specs.{Places.{standing, bonded_place, in_order}, KnownSet.is_within}
+use Rattle.mod_bonded_set.proofs.PassedLemmas.{Left}
 use Rattle.mod_bonded_set.proofs.set.who_leaves.Given as goal
 
 abbrev pub invariant-loop-v : goal.invariant-loop-v

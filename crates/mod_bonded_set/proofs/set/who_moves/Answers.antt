@@ -1,7 +1,7 @@
 use Rattle.std.proofs.Common.{◌∙◌, sym, subst, option_map}
 use Rattle.mod_staking.specs.{KnownSet.AreSet, Places.standing}
-use Rattle.mod_bonded_set.specs.Sets.{IsUnmoved}
-use Rattle.mod_bonded_set.proofs.{KnownLemmas.{none-join, none-leave, unmoved_if}, StakeLemmas.{sound_ascend, sound_keyed}}
+use Rattle.mod_bonded_set.{specs.Sets.IsUnmoved, proofs.KnownLemmas.{none-join, none-leave, unmoved_if}}
+use Rattle.mod_bonded_set.proofs.StakeLemmas.{sound_ascend, sound_keyed}
 use Rattle.mod_bonded_set.proofs.set.who_moves.Goals as goal
 
 pub returns-then-knows_set-clause-joining : goal.returns-then-knows_set-clause-joining
@@ -29,5 +29,7 @@ returns-clause-unmoved g c =
     let s = c.args.staking.now.staked in
     let r = c.args.power_reduction in
     let most = c.args.most in
-    let told = unmoved_if r most s (sound_ascend s c.requires.sound) (sound_keyed s c.requires.sound) c.in_ok-set.set.validators.items c.in_ok-leaving.leaving.items c.in_ok-set.ensures.joining (c.in_ok-leaving.ensures.leaving most c.in_ok-set.ensures.set) c.in_ok-set.set.last c.in_ok-set.ensures.set in
+    let joins = c.as_slice.ensures.value ∙ c.in_ok-set.ensures.joining in
+    let leaves = c.as_slice-2.ensures.value ∙ c.in_ok-leaving.ensures.leaving most c.in_ok-set.ensures.set in
+    let told = unmoved_if r most s (sound_ascend s c.requires.sound) (sound_keyed s c.requires.sound) c.as_slice.result.now c.as_slice-2.result.now joins leaves c.in_ok-set.set.last c.in_ok-set.ensures.set in
     subst (λ l. IsUnmoved r most s (option_map standing l)) (sym c.unmoved_last-last.ensures) told

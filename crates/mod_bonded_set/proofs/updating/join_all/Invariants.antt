@@ -2,8 +2,8 @@ use Rattle.std.proofs.Common.{◌≡◌, ◌+◌, ◌*◌, ◌≤◌, length, dr
 use Rattle.base_roles.specs.{Ground.seen, Log.Log}
 use Rattle.mod_staking.specs.Scenes.{IsHooked}
 use Rattle.rule_modules.specs.BondedSet.{HaveOwnOperators}
-use Rattle.mod_bonded_set.specs.{Calls.AllStays, Sets.{AllStand, all_joined}}
-use Rattle.mod_bonded_set.proofs.{JoinedLemmas.HasJoined, LoopLemmas.fine}
+use Rattle.mod_bonded_set.{specs.{Calls.AllStays, Sets.{AllStand, all_joined}}, proofs.JoinedLemmas.HasJoined}
+use Rattle.mod_bonded_set.proofs.LoopLemmas.{fine}
 use Rattle.mod_bonded_set.proofs.updating.join_all.Given as goal
 
 abbrev pub invariant-loop-v : goal.invariant-loop-v

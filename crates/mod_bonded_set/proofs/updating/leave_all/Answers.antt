@@ -4,7 +4,8 @@ use Rattle.base_types.specs.declared.status.BondStatus.TheVariants.{Unbonding}
 use Rattle.base_roles.specs.{declared.entities.Validator.Validator, Ground.{seen, IsInOrder}, Staked.put_validator}
 use Rattle.rule_modules.specs.{Unbondings.completion, BondedSet.HaveOwnOperators}
 use Rattle.mod_bonded_set.specs.{Calls.RegisterStays, Sets.{AllStand, all_left, all_leavings_noted}}
-use Rattle.mod_bonded_set.proofs.{LoopLemmas.{next_of, fine, register-none, register-of, register-then, undone-none, undone-then}, TokenLemmas.still_stand}
+use Rattle.mod_bonded_set.proofs.LoopLemmas.{next_of, fine, register-none, register-of, register-then, undone-none, undone-then}
+use Rattle.mod_bonded_set.proofs.TokenLemmas.{still_stand}
 use Rattle.mod_bonded_set.proofs.updating.leave_all.Goals as goal
 
 pub loop-v-init : goal.loop-v-init

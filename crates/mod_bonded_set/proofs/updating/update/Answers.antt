@@ -10,7 +10,8 @@ use Rattle.rule_modules.specs.BondedSet.{HaveOwnOperators, joined_set, set_updat
 use Rattle.rule_modules.specs.Unbondings.{completion}
 use Rattle.mod_staking.specs.{Calls.behind_log, KnownSet.IsKnown, Places.standing, Scenes.IsScene}
 use Rattle.mod_bonded_set.specs.{Calls.AllStays, Sets.{AllStand, all_joined, all_left, all_leavings_noted}}
-use Rattle.mod_bonded_set.proofs.{KnownLemmas.known_after, JoinedLemmas.memory_wanting, LoopLemmas.{turns_within, fine, register-none, stays-none, stays-then}}
+use Rattle.mod_bonded_set.proofs.{KnownLemmas.known_after, JoinedLemmas.memory_wanting}
+use Rattle.mod_bonded_set.proofs.LoopLemmas.{turns_within, fine, register-none, stays-none, stays-then}
 use Rattle.mod_bonded_set.proofs.PassedLemmas.{joining-few, leaving-few}
 use Rattle.mod_bonded_set.proofs.SceneLemmas.{leaving-stand-now, backed2, enough-to_bonded, enough-from_bonded, accounts3, stand3}
 use Rattle.mod_bonded_set.proofs.StandLemmas.{joining-stand, joining-apart, joining-all, leaving-apart, leaving-all}

@@ -1,6 +1,6 @@
 use Rattle.std.proofs.Common.{◌≡◌, ◌∙◌, ◌+◌, ◌-◌, ◌%◌, ◌≤◌, length, ap, arith}
-use Rattle.mod_signing.specs.Rings.{place_set, ring_of}
-use Rattle.mod_signing.proofs.{LoopLemmas.{next_whole, still_whole}, UptoLemmas.first_length}
+use Rattle.mod_signing.{specs.Rings.{place_set, ring_of}, proofs.LoopLemmas.{next_whole, still_whole}}
+use Rattle.mod_signing.proofs.UptoLemmas.{first_length}
 use Rattle.mod_signing.proofs.PlaceLemmas.{part_signed, ring_marked, ring_marked_length, row_marked}
 use borrow.Rule.Slice.PartMut.{put_mid}
 use Rattle.mod_signing.proofs.walk.mark_ring.Goals as goal

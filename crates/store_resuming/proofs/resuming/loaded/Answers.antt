@@ -1,7 +1,6 @@
 use Rattle.std.proofs.Common.{sym, subst}
 use Rattle.store_records.specs.Plain.{seen}
-use Rattle.store_resuming.specs.Resumed.{IsResumed}
-use Rattle.store_resuming.proofs.ResumeLemmas.{at_rest, is_resumed, least, most}
+use Rattle.store_resuming.{specs.Resumed.IsResumed, proofs.ResumeLemmas.{at_rest, is_resumed, least, most}}
 use Rattle.store_resuming.proofs.resuming.loaded.Goals as goal
 
 pub modules_of-requires-clause-least : goal.modules_of-requires-clause-least

@@ -1,4 +1,4 @@
-use Rattle.std.proofs.Common.{◌∙◌, refl, sym, append-nil}
+use Rattle.std.proofs.Common.{refl}
 use Rattle.store_rows.proofs.MissedLemmas.{all_written, one_written}
 use Rattle.store_rows.proofs.missed.push_missed_from.Goals as goal
 

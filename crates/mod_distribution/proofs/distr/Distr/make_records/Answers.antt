@@ -2,7 +2,7 @@ use Rattle.std.proofs.Common.{◌∙◌, sym, ap, subst, refl, Err}
 use Rattle.std.proofs.lemmas.Result.{err_from_is_err_and}
 use Rattle.base_records.proofs.KindLemmas.{on_ok, is_ok}
 use Rattle.rule_modules.specs.Distribution.{distribution_told}
-use Rattle.base_roles.specs.World.{created}
+use Rattle.base_roles.specs.declared.calls.Hook.TheVariants.{Created as created}
 use Rattle.mod_allocation.specs.Calls.{purse_at}
 use Rattle.mod_periods.specs.{Kept.current_of, Stands.IsKept}
 use Rattle.mod_distribution.specs.{Kept.{KeptShared, SharedGoesOn, distributed}, Stands.KeepsShared}

@@ -1,6 +1,6 @@
 use Rattle.std.proofs.Common.{◌∙◌, [], refl, sym, ap, subst, is_some, Err}
 use Rattle.std.proofs.lemmas.Result.{err_from_is_err_and}
-use Rattle.base_roles.specs.{Ground.seen, World.{View, removed}}
+use Rattle.base_roles.specs.{Ground.seen, World.View, declared.{calls.{Hook.{TheVariants.{Removed as removed}}}}}
 use Rattle.rule_modules.specs.{Distribution.distribution_told, Purses.pooled_told}
 use Rattle.base_records.proofs.KindLemmas.{on_ok, is_ok}
 use Rattle.mod_allocation.specs.{Calls.purse_at, Owed.{AreWithin, IsMoved, nothing_more}}

@@ -96,7 +96,7 @@ take_reward-requires-clause-paid g c = let m = c.requires in can_be_paid c.args.
 
 pub returns-in_err-take_reward-in-Modifying-clause-told : goal.returns-in_err-take_reward-in-Modifying-clause-told
 returns-in_err-take_reward-in-Modifying-clause-told g c = λ d h.
-    let p = err_from_is_err_and c.from_residual-2.result c.from_residual-2.ensures.1 in
+    let p = err_from_is_err_and c.from_residual-in_err-take_reward-in-Modifying.result c.from_residual-in_err-take_reward-in-Modifying.ensures.1 in
     let rule = reward_withdrawn c.in-Modifying.validator c.in-Modifying.delegator c.in-Modifying.shares d (seen g.B.Bank.holdings c.args.g.now) in
     told_as distribution_tells d _ _ _ _ _ _ c.in-Modifying.is
     (rw (p.1, p.2) (told_fault c.take_reward.new.self.kept (seen g.B.Bank.holdings c.take_reward.new.g) rule c.in_err-take_reward-in-Modifying.field-0.0 (c.in_err-take_reward-in-Modifying.ensures.withdrawn d h)))

@@ -1,7 +1,8 @@
 use Rattle.std.proofs.Common.{◌≡◌, ◌∙◌, refl, ap, sym, subst, Result, Ok, Err, OnOk}
 use Rattle.std.specs.Prelude.{⊤}
 use Rattle.base_roles.specs.{declared.faults.HookFault.HookFault, Answers.Answers, Ground.seen, Hooks.Stand}
-use Rattle.base_roles.specs.{Staked.{lists_of, bonded_tokens, other_tokens}, StakeChanges.HoldsStake, World.created}
+use Rattle.base_roles.specs.{Staked.{lists_of, bonded_tokens, other_tokens}, StakeChanges.HoldsStake}
+use Rattle.base_roles.specs.declared.calls.Hook.TheVariants.{Created as created}
 use Rattle.base_roles.proofs.HookLemmas.{Stand-after_ok, picked}
 use Rattle.rule_modules.proofs.SoundLemmas.{IsSoundAt, to_points, from_points}
 use Rattle.mod_staking.proofs.{ListLemmas.lists-joined, GroundLemmas.holds-kept, DelegateLemmas.keeps-ok}

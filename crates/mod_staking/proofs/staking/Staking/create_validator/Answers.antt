@@ -1,7 +1,8 @@
 use Rattle.std.proofs.Common.{◌≡◌, ◌∙◌, ap, sym, subst, Ok, Err}
 use Rattle.base_roles.specs.{Ground.seen, Hooks.Stand}
 use Rattle.base_roles.specs.Staked.{validator_at, put_validator, lists_of, bonded_tokens, other_tokens}
-use Rattle.base_roles.specs.{StakeChanges.HoldsStake, World.created, Answers.AnswersAs}
+use Rattle.base_roles.specs.{StakeChanges.HoldsStake, Answers.AnswersAs}
+use Rattle.base_roles.specs.declared.calls.Hook.TheVariants.{Created as created}
 use Rattle.base_roles.proofs.HookLemmas.{Stand-after_ok, told-of_ok, picked}
 use Rattle.rule_modules.specs.Delegating.{wallet, delegated}
 use Rattle.rule_modules.proofs.SoundLemmas.{IsSoundAt, to_points, from_points, found_itself}

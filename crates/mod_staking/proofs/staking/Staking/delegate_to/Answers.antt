@@ -2,7 +2,8 @@ use Rattle.std.proofs.Common.{◌≡◌, ◌∙◌, ap, sym, subst, arith, rules
 use Rattle.std.proofs.lemmas.Grind.{common_steps}
 use Rattle.base_roles.specs.{Ground.seen, Hooks.{Stand, after}}
 use Rattle.base_roles.specs.{Staked.{lists_of, put_validator, bonded_tokens, other_tokens}, StakeChanges.HoldsStake}
-use Rattle.base_roles.{specs.World.modified, proofs.HookLemmas.{Stand-after_ok, picked}}
+use Rattle.base_roles.specs.declared.calls.Hook.TheVariants.{Modified as modified}
+use Rattle.base_roles.proofs.HookLemmas.{Stand-after_ok, picked}
 use Rattle.rule_modules.specs.{Delegating.hook_before, Stakes.put_delegation}
 use Rattle.rule_modules.proofs.SoundLemmas.{IsSoundAt, to_points, from_points}
 use Rattle.mod_staking.specs.Calls.{origin_of}

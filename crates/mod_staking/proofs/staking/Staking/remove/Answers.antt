@@ -1,5 +1,6 @@
 use Rattle.std.proofs.Common.{◌∙◌, ap, sym, subst}
-use Rattle.base_roles.specs.{Ground.seen, Hooks.Stand, Staked.lists_of, World.removed}
+use Rattle.base_roles.specs.{Ground.seen, Hooks.Stand, Staked.lists_of}
+use Rattle.base_roles.specs.declared.calls.Hook.TheVariants.{Removed as removed}
 use Rattle.base_roles.proofs.HookLemmas.{stand-noted, Stand-after_ok, picked}
 use Rattle.rule_modules.proofs.SoundLemmas.{IsSoundAt, to_points, from_points}
 use Rattle.mod_staking.proofs.{IndexLemmas.alone_without, SoundLemmas.sound-taken, ListLemmas.lists-left}

@@ -1,7 +1,8 @@
 use Rattle.std.proofs.Common.{◌≡◌, ◌∙◌, ◌-◌, ◌==◌, ◌<◌, ◌≤◌, true, false, None, Some, ap, sym, subst, refl, arith}
 use Rattle.base_shares.specs.Shares.{amount_out}
 use Rattle.base_roles.specs.{Ground.seen, Hooks.{Stand, Ready, with_started}}
-use Rattle.base_roles.specs.{Staked.{lists_of, validator_at, put_validator}, World.{modifying, modified}}
+use Rattle.base_roles.specs.Staked.{lists_of, validator_at, put_validator}
+use Rattle.base_roles.specs.declared.calls.Hook.TheVariants.{Modifying as modifying, Modified as modified}
 use Rattle.base_roles.proofs.HookLemmas.{told-of_ok, picked}
 use Rattle.rule_modules.specs.Unbonding.{falls_below_minimum, left_standing}
 use Rattle.rule_modules.proofs.SoundLemmas.{IsSoundAt, to_points, from_points, found_itself}
