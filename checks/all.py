@@ -12,8 +12,8 @@ SECONDS = 900  # after which a check that has not ended is failed
 # the checks, those that take longest first
 IN_PYTHON = "page", "wrong_calls"
 NAMES = (
-    "recipes stores page wrong_calls commands statements pages words repository lemmas cases forms lines pipes trials "
-    "caught release"
+    "recipes stores page wrong_calls commands statements install pages words repository lemmas cases forms lines pipes "
+    "trials caught release"
 ).split()
 CHECKS = {name: [sys.executable, "-B", f"checks/{name}.py"] if name in IN_PYTHON else ["bash", f"checks/{name}.sh"]
           for name in NAMES}
