@@ -1,5 +1,6 @@
 //! Ballots read from lines, and the line of a tally. Lines that are no ballot are rows of `cases/forms.txt`.
 
+use crate::checks::holds;
 use base_bech32::Form;
 use base_decimals::Dec;
 use base_messages::LineFault;
@@ -38,7 +39,8 @@ fn each_choice_is_read(rt: HostRuntime) {
             Choice::Veto,
         ),
     ] {
-        assert!(rt; read(rt.alloc(), line) == Ok(Ballot { voter, choice }));
+        let ballot = Ballot { voter, choice };
+        holds(&rt, line, read(rt.alloc(), line) == Ok(ballot));
     }
 }
 
@@ -57,6 +59,7 @@ fn a_tally_is_written(rt: HostRuntime) {
         bonded: 1_000_000,
     };
     let mut out = Vec::new(rt.alloc());
-    assert!(rt; push_line_of_tally(rt.alloc(), &mut out, &tally).is_ok());
-    assert!(rt; out.as_slice() == TALLY_LINE.as_bytes());
+    let pushed = push_line_of_tally(rt.alloc(), &mut out, &tally);
+    holds(&rt, "memory", pushed.is_ok());
+    holds(&rt, "its line", out.as_slice() == TALLY_LINE.as_bytes());
 }

@@ -9,6 +9,8 @@ mod address_tests;
 #[cfg(test)]
 mod ballot_tests;
 #[cfg(test)]
+mod checks;
+#[cfg(test)]
 mod reading_tests;
 #[cfg(test)]
 mod report_tests;

@@ -1,8 +1,9 @@
 //! A genesis and blocks read from lines: their values, and each kind of message. Lines that are not of their form are rows
 //! of `cases/forms.txt`.
 
+use crate::checks::holds;
 use base_bech32::Form;
-use base_messages::{Block, Msg};
+use base_messages::{Block, Genesis, Msg};
 use json::Scratch;
 use line_json::{read_block, read_genesis};
 use std::process::Abort;
@@ -69,49 +70,51 @@ fn reads_as_its_kind(rt: &(impl Abort + AllocGlobal), kind: &str, members: &str)
     }
 }
 
+/// Kinds of messages, each with its members.
+const MESSAGES: [(&str, &str); 16] = [
+    ("send", ",\"from\":@,\"to\":@,\"coins\":[#]"),
+    (
+        "create_validator",
+        ",\"validator\":@,\"cons\":@,\"rate\":\"0.1\",\"max_rate\":\"0.2\",\"max_change_rate\":\"0.3\",\"min_self_delegation\":\"1\",\"amount\":#",
+    ),
+    ("edit_validator", ",\"validator\":@"),
+    ("edit_validator", ",\"validator\":@,\"rate\":\"0.1\""),
+    (
+        "edit_validator",
+        ",\"validator\":@,\"min_self_delegation\":\"2\"",
+    ),
+    ("delegate", ",\"delegator\":@,\"validator\":@,\"amount\":#"),
+    (
+        "undelegate",
+        ",\"delegator\":@,\"validator\":@,\"amount\":#",
+    ),
+    (
+        "begin_redelegate",
+        ",\"delegator\":@,\"source\":@,\"target\":@,\"amount\":#",
+    ),
+    (
+        "cancel_unbonding",
+        ",\"delegator\":@,\"validator\":@,\"amount\":#,\"creation_height\":4",
+    ),
+    ("unjail", ",\"validator\":@"),
+    ("withdraw_reward", ",\"delegator\":@,\"validator\":@"),
+    ("withdraw_commission", ",\"validator\":@"),
+    ("set_withdraw_address", ",\"delegator\":@,\"withdraw\":@"),
+    ("fund_community_pool", ",\"depositor\":@,\"coins\":[#]"),
+    (
+        "community_pool_spend",
+        ",\"authority\":@,\"recipient\":@,\"coins\":[]",
+    ),
+    (
+        "update_params",
+        ",\"authority\":@,\"params\":{\"bond_denom\":\"uatom\",\"power_reduction\":0,\"unbonding_time\":0,\"max_validators\":0,\"max_entries\":0,\"min_commission_rate\":\"2\",\"community_tax\":\"2\",\"withdraw_addr_enabled\":false,\"signed_blocks_window\":0,\"min_signed_per_window\":\"2\",\"downtime_jail_duration\":0,\"slash_fraction_double_sign\":\"2\",\"slash_fraction_downtime\":\"2\",\"max_age_duration\":0,\"max_age_num_blocks\":0,\"authority\":@}",
+    ),
+];
+
 #[test]
 fn each_kind_of_message_is_read(rt: HostRuntime) {
-    let messages = [
-        ("send", ",\"from\":@,\"to\":@,\"coins\":[#]"),
-        (
-            "create_validator",
-            ",\"validator\":@,\"cons\":@,\"rate\":\"0.1\",\"max_rate\":\"0.2\",\"max_change_rate\":\"0.3\",\"min_self_delegation\":\"1\",\"amount\":#",
-        ),
-        ("edit_validator", ",\"validator\":@"),
-        ("edit_validator", ",\"validator\":@,\"rate\":\"0.1\""),
-        (
-            "edit_validator",
-            ",\"validator\":@,\"min_self_delegation\":\"2\"",
-        ),
-        ("delegate", ",\"delegator\":@,\"validator\":@,\"amount\":#"),
-        (
-            "undelegate",
-            ",\"delegator\":@,\"validator\":@,\"amount\":#",
-        ),
-        (
-            "begin_redelegate",
-            ",\"delegator\":@,\"source\":@,\"target\":@,\"amount\":#",
-        ),
-        (
-            "cancel_unbonding",
-            ",\"delegator\":@,\"validator\":@,\"amount\":#,\"creation_height\":4",
-        ),
-        ("unjail", ",\"validator\":@"),
-        ("withdraw_reward", ",\"delegator\":@,\"validator\":@"),
-        ("withdraw_commission", ",\"validator\":@"),
-        ("set_withdraw_address", ",\"delegator\":@,\"withdraw\":@"),
-        ("fund_community_pool", ",\"depositor\":@,\"coins\":[#]"),
-        (
-            "community_pool_spend",
-            ",\"authority\":@,\"recipient\":@,\"coins\":[]",
-        ),
-        (
-            "update_params",
-            ",\"authority\":@,\"params\":{\"bond_denom\":\"uatom\",\"power_reduction\":0,\"unbonding_time\":0,\"max_validators\":0,\"max_entries\":0,\"min_commission_rate\":\"2\",\"community_tax\":\"2\",\"withdraw_addr_enabled\":false,\"signed_blocks_window\":0,\"min_signed_per_window\":\"2\",\"downtime_jail_duration\":0,\"slash_fraction_double_sign\":\"2\",\"slash_fraction_downtime\":\"2\",\"max_age_duration\":0,\"max_age_num_blocks\":0,\"authority\":@}",
-        ),
-    ];
-    for (kind, members) in messages {
-        assert!(rt; reads_as_its_kind(&rt, kind, members), "{kind}");
+    for (kind, members) in MESSAGES {
+        holds(&rt, kind, reads_as_its_kind(&rt, kind, members));
     }
 }
 
@@ -123,54 +126,56 @@ fn amount_sent(block: &Block, place: usize) -> Option<u128> {
     }
 }
 
+fn read_of_block(rt: &(impl Abort + AllocGlobal)) -> Block {
+    let mut scratch = Scratch::new(rt.alloc());
+    let read = read_block(Form::Hex, rt.alloc(), &mut scratch, BLOCK.as_bytes());
+    read.expect(rt, "a block")
+}
+
 #[test]
 fn the_values_of_a_block_are_read(rt: HostRuntime) {
-    let block = read_block(
-        Form::Hex,
-        rt.alloc(),
-        &mut Scratch::new(rt.alloc()),
-        BLOCK.as_bytes(),
+    let block = read_of_block(&rt);
+    holds(&rt, "the height", block.height == 1);
+    holds(
+        &rt,
+        "the time",
+        block.time.nanos() == 1_704_067_205_000_000_000,
     );
-    let block = block.expect(&rt, "a block");
-    assert_eq!(rt;
-        (block.height, block.time.nanos()),
-        (1, 1_704_067_205_000_000_000)
-    );
-    assert!(rt; block.votes.at(0).is_some_and(|vote| vote.power == 10));
-    assert!(rt;
-        block
-            .evidence
-            .at(0)
-            .is_some_and(|evidence| evidence.height == 3)
-    );
-    assert!(rt;
-        block
-            .txs
-            .at(0)
-            .is_some_and(|tx| tx.payer.bytes() == [0xaa; 20])
-    );
-    for (place, amount) in [(0, Some(100)), (1, Some(7)), (2, None)] {
-        assert_eq!(rt; amount_sent(&block, place), amount);
-    }
+    let vote = block.votes.at(0).expect(&rt, "a vote");
+    holds(&rt, "the power", vote.power == 10);
+    let evidence = block.evidence.at(0).expect(&rt, "a piece of evidence");
+    holds(&rt, "the height of the evidence", evidence.height == 3);
+    let tx = block.txs.at(0).expect(&rt, "a transaction");
+    holds(&rt, "the payer", tx.payer.bytes() == [0xaa; 20]);
+    holds(&rt, "the first amount", amount_sent(&block, 0) == Some(100));
+    holds(&rt, "the second amount", amount_sent(&block, 1) == Some(7));
+    holds(&rt, "no third amount", amount_sent(&block, 2) == None);
+}
+
+fn read_of_genesis(rt: &(impl Abort + AllocGlobal)) -> Genesis {
+    let mut scratch = Scratch::new(rt.alloc());
+    let read = read_genesis(Form::Hex, rt.alloc(), &mut scratch, GENESIS.as_bytes());
+    read.expect(rt, "a genesis")
 }
 
 #[test]
 fn the_values_of_a_genesis_are_read(rt: HostRuntime) {
-    let genesis = read_genesis(
-        Form::Hex,
-        rt.alloc(),
-        &mut Scratch::new(rt.alloc()),
-        GENESIS.as_bytes(),
+    let genesis = read_of_genesis(&rt);
+    holds(
+        &rt,
+        "the time",
+        genesis.time.nanos() == 1_704_067_200_000_000_000,
     );
-    let genesis = genesis.expect(&rt, "a genesis");
-    assert_eq!(rt; genesis.time.nanos(), 1_704_067_200_000_000_000);
-    assert_eq!(rt; genesis.params.max_age_num_blocks, 100_000);
-    assert_eq!(rt; genesis.params.community_tax.raw(), 20_000_000_000_000_000);
+    holds(&rt, "an age", genesis.params.max_age_num_blocks == 100_000);
+    let tax = genesis.params.community_tax.raw();
+    holds(&rt, "the tax", tax == 20_000_000_000_000_000);
     let account = genesis.accounts.at(0).expect(&rt, "an account");
-    assert_eq!(rt; account.coins.len(), 2);
-    assert!(rt; account.coins.at(0).is_some_and(|coin| coin.amount == 1000));
+    holds(&rt, "two coins", account.coins.len() == 2);
+    let coin = account.coins.at(0).expect(&rt, "a coin");
+    holds(&rt, "the first amount", coin.amount == 1000);
     let validator = genesis.validators.at(0).expect(&rt, "a validator");
-    assert_eq!(rt; validator.max_change_rate.raw(), 10_000_000_000_000_000);
+    let change = validator.max_change_rate.raw();
+    holds(&rt, "the largest change", change == 10_000_000_000_000_000);
     let delegation = genesis.delegations.at(0).expect(&rt, "a delegation");
-    assert_eq!(rt; delegation.amount, 77);
+    holds(&rt, "the delegation", delegation.amount == 77);
 }

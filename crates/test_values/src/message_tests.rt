@@ -37,30 +37,29 @@ fn put(rt: &impl Abort, messages: &mut Vec<Msg>, message: Msg) {
 
 /// Adds messages that make, change or leave a stake.
 fn put_stakes(rt: &impl Abort, messages: &mut Vec<Msg>, delegator: Addr, validator: Addr) {
-    let amount = coin(rt);
     let delegate = Delegate {
         delegator,
         validator,
-        amount,
+        amount: coin(rt),
     };
     put(rt, messages, Msg::Delegate(delegate));
     let undelegate = Undelegate {
         delegator,
         validator,
-        amount,
+        amount: coin(rt),
     };
     put(rt, messages, Msg::Undelegate(undelegate));
     let redelegate = BeginRedelegate {
         delegator,
         source: validator,
         target: delegator,
-        amount,
+        amount: coin(rt),
     };
     put(rt, messages, Msg::BeginRedelegate(redelegate));
     let cancel = CancelUnbonding {
         delegator,
         validator,
-        amount,
+        amount: coin(rt),
         creation_height: 5,
     };
     put(rt, messages, Msg::CancelUnbonding(cancel));
