@@ -1,5 +1,5 @@
 -- Answers of a chain to lines, from the states for which it stands.
-use Rattle.std.proofs.Common.{◌≡◌, ◌∙◌, inl, inr, ℕ, ◌≤◌, false, nat_lt, List, [], ◌++◌, length, Option, Some, None, Result, Ok, Err, OnOk, IfErr, IfSome, refl, sym, ap, subst, arith}
+use Rattle.std.proofs.Common.{◌≡◌, ◌∙◌, inl, ℕ, ◌≤◌, false, nat_lt, List, [], ◌++◌, length, Option, Some, None, Result, Ok, Err, IfSome, refl, sym, ap, subst, arith}
 use Rattle.base_bech32.specs.declared.form.Form.{Form}
 use Rattle.base_io.specs.{Outside.IsPart, Calls.{AddsPart, Stays}}
 use Rattle.base_roles.specs.declared.{facts.Fact.Fact, refusal.Refusal.Refusal}
@@ -16,10 +16,8 @@ use Rattle.chain_blocks.specs.Answers.{Applies}
 use Rattle.chain_whole.specs.{Answers.{LeavesChain, Starts}, Chained.{Chained, Listened}}
 use Rattle.run_app.specs.declared.status.LineStop.{LineStop}
 use Rattle.run_app.specs.Machine.{Standing, Answer, StandsAt, HoldsAnswer, longest, not_read, begun, told, started_answer, genesis_answer, not_applied, applied_answer, block_answer, answer_within, line_answer, report_of}
-use Rattle.run_app.specs.Runs.{ran_report, Reported}
-use Rattle.run_app.specs.Parts.{IsFault, Grows, Finishes, FinishStops, UnlessNoMemory}
+use Rattle.run_app.specs.{Runs.{ran_report, Reported}, Parts.{IsFault, Grows, Finishes, FinishStops, UnlessNoMemory}}
 use Rattle.run_app.proofs.{PartLemmas.untold, RunLemmas.no_growth}
-use Rattle.run_app.specs.declared.status.LineStop.TheVariants as stop
 use Rattle.run_app.specs.declared.status.EndStop.TheVariants as ends
 use Rattle.run_app.specs.declared.status.InputFault.TheVariants as input
 

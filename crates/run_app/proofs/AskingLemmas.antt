@@ -1,5 +1,5 @@
 -- The pending rewards that a question asks for, as a chain tells them.
-use Rattle.std.proofs.Common.{◌≡◌, ◌∙◌, ℕ, Bool, true, false, List, [], ◌++◌, Option, Some, None, Result, Ok, Err, IfOk, Vec, Global, refl, sym, ap, subst, bytes_eq, All, IsPermutation, append-nil}
+use Rattle.std.proofs.Common.{◌≡◌, ◌∙◌, ℕ, false, List, [], Option, Result, Ok, Err, IfOk, Vec, Global, refl, sym, subst, IsPermutation, append-nil}
 use Rattle.std.proofs.lemmas.List.{Elements.{All-nil, All-weaker}, Sorted.IsPermutation-refl}
 use Rattle.std.proofs.lemmas.Map.Text.{is_eq-slice_cmp}
 use Rattle.base_bech32.specs.declared.form.Form.{Form}

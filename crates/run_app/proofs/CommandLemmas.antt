@@ -11,9 +11,9 @@ use Rattle.run_app.specs.declared.status.Status.{Status}
 use Rattle.run_app.specs.declared.status.Status.TheVariants.{Done, Usage, BadInput, Limit, ReadFault, WriteFault, KeepFault, NoMemory, BadStore, WrongStore, NotFound, NoPast}
 use Rattle.run_app.specs.declared.performing.Way.{Way, TheVariants.{Plain, Kept, Past}}
 use Rattle.run_app.specs.Commands.{CommandEnds, CommandUnkept, IsUntroubledBy, WayEnds, WayUnkept, way_of}
-use Rattle.run_app.specs.Counts.{IsOfWords, Moved, ReadMoved, is_keep_fault, is_write_fault}
-use Rattle.run_app.specs.{Ending.status_of_words, Kept.AreSome, Modes.{IsTried, IsUntroubledAt, ModeEnds}}
-use Rattle.run_app.specs.{Unkept.ModeUnkept, Writes.IsWritten, Seen.{keeper_told, sink_told, source_told}}
+use Rattle.run_app.specs.{Counts.{IsOfWords, Moved, ReadMoved, is_keep_fault, is_write_fault}, Ending.status_of_words}
+use Rattle.run_app.specs.{Kept.AreSome, Modes.{IsTried, IsUntroubledAt, ModeEnds}, Unkept.ModeUnkept, Writes.IsWritten}
+use Rattle.run_app.specs.Seen.{keeper_told, sink_told, source_told}
 use Rattle.run_app.proofs.{CheckLemmas.{check_unbegun, untroubled_check}, DriveLemmas.untroubled_run}
 use Rattle.run_app.proofs.ModeLemmas.{finds_none, nothing, nothing_done, rows_left, same_rows, tried_without_memory, unbegun_replay, untouched, written_to_end}
 use Rattle.run_app.proofs.ResumeLemmas.{untroubled_query, untroubled_resume}

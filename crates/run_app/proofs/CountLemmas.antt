@@ -1,13 +1,13 @@
 -- Counts of faults move with the status.
 use Rattle.std.proofs.Common.{◌≡◌, ◌⊎◌, ◌<◌, inl, inr, ℕ, Bool, true, false, List, Result, Ok, Err, IfErr, OnErr, refl, ap, subst, arith}
 use Rattle.base_io.specs.Outside.{Rose}
-use Rattle.run_app.specs.declared.progress.Ending.{Ending}
-use Rattle.run_app.specs.declared.progress.Ending.TheVariants as ending
-use Rattle.run_app.specs.declared.status.{EndStop.EndStop, InputFault.InputFault, LineStop.LineStop, Status.Status}
+use Rattle.run_app.specs.declared.{progress.Ending.Ending, status.{EndStop.EndStop, InputFault.InputFault}}
+use Rattle.run_app.specs.declared.status.{LineStop.LineStop, Status.Status}
 use Rattle.run_app.specs.declared.status.Status.TheVariants.{Done, Usage, BadInput, Limit, ReadFault, WriteFault, KeepFault, NoMemory, BadStore, WrongStore, NotFound, NoPast}
 use Rattle.run_app.specs.{Counts.{Moved, ReadMoved, is_keep_fault, is_read_fault, is_write_fault}, Ending.status_of}
 use Rattle.run_app.specs.Outcome.{HasBegun, UnlessReadFault, UnlessWriteFault}
 use Rattle.run_app.specs.Parts.{HasStopped, IsLoss, IsOfKeeper, IsOfSink, IsPause, IsStop, NotExtended, ending_of, is_keep, is_keep_stop, is_read, is_write, is_write_stop, status_at_end}
+use Rattle.run_app.specs.declared.progress.Ending.TheVariants as ending
 use Rattle.run_app.specs.declared.status.LineStop.TheVariants as stops
 use Rattle.run_app.specs.declared.status.EndStop.TheVariants as ends
 

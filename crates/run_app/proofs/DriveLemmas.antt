@@ -3,22 +3,19 @@ use Rattle.std.proofs.Common.{◌⊎◌, inl, inr, ◌≡◌, ◌≢◌, ◌∙�
 use Rattle.base_bech32.specs.declared.form.Form.{Form}
 use Rattle.base_io.specs.{Calls.{Takes, Stays}, Rows.Pair}
 use Rattle.chain_whole.specs.Chained.{Chained}
-use Rattle.run_app.specs.declared.progress.Ending.{Ending}
-use Rattle.run_app.specs.declared.progress.Ending.TheVariants as ending
-use Rattle.run_app.specs.declared.status.Status.{Status}
+use Rattle.run_app.specs.declared.{progress.Ending.Ending, status.Status.Status}
 use Rattle.run_app.specs.declared.status.Status.TheVariants.{Done, Usage, BadInput, Limit, ReadFault, WriteFault, KeepFault, NoMemory, BadStore, WrongStore, NotFound, NoPast}
 use Rattle.run_app.specs.declared.status.{LimitKind.TheVariants.{Line, Input, Ratio, Bound}, LineStop.LineStop}
-use Rattle.run_app.specs.declared.status.LineStop.TheVariants as stops
-use Rattle.run_app.specs.Kept.{Began, Keeping, LeftIn}
-use Rattle.run_app.specs.{Ending.status_of, Lines.{whole_from, rest_from, last_line, lines_from, lines_of}, Machine.{Standing, longest}}
+use Rattle.run_app.specs.{Kept.{Began, Keeping, LeftIn}, Ending.status_of}
+use Rattle.run_app.specs.{Lines.{whole_from, rest_from, last_line, lines_from, lines_of}, Machine.{Standing, longest}}
 use Rattle.run_app.specs.Runs.{Ran, ran_from, AreAnswered, Named, Lacking}
 use Rattle.run_app.specs.Outcome.{Ends, HasBegun, RunEnds, answer_from, most_bytes, AreEnded, IsUntroubled}
 use Rattle.run_app.specs.Parts.{EndsSo, Fed, Grows, IsAt, IsPaused, LongOnly, Loses, PartStops, PausedBefore, Pauses, Stands, ending_of}
-use Rattle.run_app.specs.Told.{TakesFrom, Told}
-use Rattle.run_app.proofs.CutLemmas.{lines-append}
-use Rattle.run_app.proofs.PartLemmas.{last-some, last-none, long_at}
-use Rattle.run_app.proofs.RunLemmas.{ran-append}
+use Rattle.run_app.{specs.Told.{TakesFrom, Told}, proofs.CutLemmas.lines-append}
+use Rattle.run_app.proofs.{PartLemmas.{last-some, last-none, long_at}, RunLemmas.ran-append}
 use Rattle.run_app.proofs.WaitLemmas.{all_written, loses_more, stands_fewer, stands_more, start_waits}
+use Rattle.run_app.specs.declared.progress.Ending.TheVariants as ending
+use Rattle.run_app.specs.declared.status.LineStop.TheVariants as stops
 
 abbrev pub TookBytes : ℕ → List ℕ → Option (List ℕ) → Option (List ℕ) → Type 0
 TookBytes m piece left left' = IfSome left (λ bytes. Takes m bytes piece left')

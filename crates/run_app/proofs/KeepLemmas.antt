@@ -3,7 +3,8 @@ use Rattle.std.proofs.Common.{◌≡◌, ◌∙◌, ◌⊎◌, inl, inr, true≢
 use Rattle.chain_whole.specs.Chained.{Chained}
 use Rattle.base_io.specs.{declared.keeper.KeepFault.KeepFault, Rows.{Makes, Pair}, Changes.LeavesRows}
 use Rattle.base_roles.specs.declared.items.Item.{Item}
-use Rattle.store_commits.{specs.{Held.{HasRisen, items_at, rows_at}, Commits.{Commits, Holds}}, proofs.Committing.none_stored}
+use Rattle.store_commits.specs.{Held.{HasRisen, items_at, rows_at}, Commits.{Commits, Holds}}
+use Rattle.store_commits.proofs.Committing.{none_stored}
 use Rattle.rule_machine.specs.Items.{items_of}
 use Rattle.chain_modules.specs.Kept.{StandsFor}
 use Rattle.rule_modules.specs.Chain.{State}

@@ -1,4 +1,5 @@
 pub mod AlikeLemmas
+pub mod AloneLemmas
 pub mod AnswerLemmas
 pub mod AskingLemmas
 pub mod BallotLemmas

@@ -1,5 +1,5 @@
 -- How the answer to a line leads on, or stops a run.
-use Rattle.std.proofs.Common.{◌≡◌, ◌∙◌, ℕ, ◌+◌, ◌<◌, ◌≤◌, List, [], ◌∷◌, ◌++◌, length, Option, Some, None, Result, Ok, Err, IfErr, IfSome, OnErr, OnOk, IsErrOf, refl, sym, ap, subst, arith, length-append}
+use Rattle.std.proofs.Common.{◌≡◌, ◌∙◌, ℕ, ◌+◌, ◌<◌, ◌≤◌, List, [], ◌∷◌, ◌++◌, length, Option, Some, None, Result, Ok, Err, IfErr, IfSome, IsErrOf, refl, sym, ap, subst, arith, length-append}
 use Rattle.std.specs.Prelude.{⊤}
 use Rattle.base_bech32.specs.declared.form.Form.{Form}
 use Rattle.base_io.specs.{Calls.AddsPart, Keeping.UnlessLost, Outside.Rose, Rows.Pair}
@@ -7,21 +7,18 @@ use Rattle.base_io.specs.declared.keeper.KeepFault.{KeepFault}
 use Rattle.base_io.specs.declared.keeper.KeepFault.TheVariants as keep
 use Rattle.chain_modules.specs.Kept.{StandsFor}
 use Rattle.chain_whole.specs.Chained.{Chained}
-use Rattle.line_json.specs.Block.{block_of}
-use Rattle.line_json.specs.Genesis.{genesis_of}
+use Rattle.line_json.specs.{Block.block_of, Genesis.genesis_of}
 use Rattle.rule_machine.specs.Items.{items_of}
 use Rattle.rule_modules.specs.Chain.{State}
 use Rattle.store_commits.specs.Commits.{Commits, Holds}
-use Rattle.run_app.specs.declared.status.LineStop.{LineStop}
-use Rattle.run_app.specs.declared.status.LineStop.TheVariants as stop
-use Rattle.run_app.specs.Counts.{Moved}
-use Rattle.run_app.specs.Kept.{Began, Keeping, LeftIn}
+use Rattle.run_app.specs.{declared.status.LineStop.LineStop, Counts.Moved, Kept.{Began, Keeping, LeftIn}}
 use Rattle.run_app.specs.Machine.{Answer, HoldsAnswer, SettledAt, Standing, StandsAt, block_answer, genesis_answer, line_answer, longest}
 use Rattle.run_app.specs.Parts.{IsFault, IsLoss, IsOfKeeper, IsOfSink, LongOnly, Loses, PartStops, Stands, UnlessNoMemory, is_keep_stop, is_write_stop, not_kept}
 use Rattle.run_app.proofs.AnswerLemmas.{block_fits, first_fits}
 use Rattle.run_app.proofs.KeepLemmas.{at_first, at_some, led_on, left_of, was_kept, was_unkept}
 use Rattle.run_app.proofs.PartLemmas.{fault_stops, long_stops, lost_stops}
 use Rattle.run_app.proofs.WaitLemmas.{keep_loses, one_waits, released, stands_lost, write_loses}
+use Rattle.run_app.specs.declared.status.LineStop.TheVariants as stop
 
 -- ---- by what stopped it
 

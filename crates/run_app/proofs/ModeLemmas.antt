@@ -13,7 +13,7 @@ use Rattle.run_trial.specs.declared.fault.TrialFault.TheVariants as trial
 use Rattle.base_types.specs.declared.account.Account.{Account}
 use Rattle.base_bech32.specs.declared.form.Form.{Form, TheVariants.{Hex, Bech32}}
 use Rattle.run_words.specs.declared.mode.{Command.Command, Mode.Mode}
-use Rattle.run_words.specs.declared.mode.Mode.TheVariants.{Replay, Resume, Query, Tally, Check, Statement, Gen, Trial}
+use Rattle.run_words.specs.declared.mode.Mode.TheVariants.{Replay, Resume, Query, Tally, Check, Gen, Trial}
 use Rattle.run_words.specs.Questions.{address_asked, kind_asked}
 use Rattle.run_words.specs.Words.{alone, asking, at_height, begins_with_zero, behind_form, command_of, committing, count_of, every_mode, every_of, generating, grouping, height_of, is_bech32, is_every, is_keep, is_past, keeping, kept_mode, mode_of, of_pair, past_of, plain, seed_of, with_input, with_word, with_words}
 use Rattle.line_json.specs.Addresses.{account_in, operator_asked}

@@ -1,5 +1,5 @@
 -- Wherever lines lead, a run may go on.
-use Rattle.std.proofs.Common.{◌≡◌, ℕ, ◌+◌, ◌<◌, ◌^◌, All, List, [], ◌∷◌, Option, Some, None, Result, Ok, Err, IfOk, refl, sym, subst, arith, Contains}
+use Rattle.std.proofs.Common.{◌≡◌, ℕ, ◌+◌, ◌<◌, ◌^◌, List, [], ◌∷◌, Some, None, Result, Ok, Err, IfOk, refl, sym, subst, arith, Contains}
 use Rattle.base_bech32.specs.declared.form.Form.{Form}
 use Rattle.line_json.specs.{Block.block_of, Genesis.genesis_of}
 use Rattle.base_roles.specs.declared.refusal.Refusal.TheVariants.{Overflow}
@@ -11,7 +11,7 @@ use Rattle.rule_modules.specs.{BondedSet.set_updated, Chain.{State, begin_block,
 use Rattle.rule_modules.{specs.{Laws.next_block, Sound.IsSound}, proofs.GoingLemmas.{on_lifted, on_next}}
 use Rattle.law_soundness.proofs.{Burns.total_in, Points.{from_fits, to_fits}, Running.{StepFits, block_fits}}
 use Rattle.law_soundness.proofs.{Starting.geneses_start_sound, Steps.{from_if, on_then}}
-use Rattle.run_app.specs.{Laws.{MayGoOn, RunsMayGoOn}, Machine.Standing, Runs.AreAnswered}
+use Rattle.run_app.specs.Laws.{MayGoOn, RunsMayGoOn}
 use Rattle.run_app.proofs.ReadLemmas.{AllHaveCoins, block_has_coins, height_is_low, its_coins}
 use Rattle.run_app.proofs.SoundLemmas.{Begun, Led, block_led, genesis_led, next_height, within}
 

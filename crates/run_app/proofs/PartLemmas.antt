@@ -6,10 +6,7 @@ use Rattle.base_bech32.specs.declared.form.Form.{Form}
 use Rattle.base_io.specs.{Outside.Rose, Rows.Pair}
 use Rattle.chain_whole.specs.Chained.{Chained}
 use Rattle.run_app.specs.declared.status.LineStop.{LineStop, TheVariants.{BadInput, Long, Ratio, Write, Keep, NoMemory}}
-use Rattle.run_app.specs.declared.status.{EndStop.EndStop, InputFault.InputFault, Status.Status}
-use Rattle.run_app.specs.declared.status.Status.TheVariants as status
-use Rattle.run_app.specs.declared.status.EndStop.TheVariants as ends
-use Rattle.run_app.specs.Kept.{Began, LeftIn}
+use Rattle.run_app.specs.{declared.status.{EndStop.EndStop, InputFault.InputFault, Status.Status}, Kept.{Began, LeftIn}}
 use Rattle.run_app.specs.Lines.{whole_from, rest_from, last_line, lines_from, lines_of}
 use Rattle.run_app.specs.{Machine.{Standing, longest, line_answer}, Outcome.{Ends, most_bytes}}
 use Rattle.run_app.specs.Runs.{before, ran_from, AreAnswered, Answered, Held, Lacking, Reported, Finished}
@@ -17,6 +14,8 @@ use Rattle.run_app.specs.Parts.{EndsSo, Fed, FinishAs, FinishStatus, FinishStops
 use Rattle.run_app.proofs.CutLemmas.{whole-append, rest-append, lines-append, whole_none, rest_none, whole_one, rest_one, whole_no_longer, no_end_before}
 use Rattle.run_app.proofs.RunLemmas.{ran-append, answered-append, grows_on, no_growth}
 use Rattle.run_app.proofs.WaitLemmas.{loses_more, stands_lost}
+use Rattle.run_app.specs.declared.status.Status.TheVariants as status
+use Rattle.run_app.specs.declared.status.EndStop.TheVariants as ends
 
 -- ---- the first end of a line
 

@@ -1,5 +1,5 @@
 -- A stopped run and one that goes on from its rows print what one run prints.
-use Rattle.std.proofs.Common.{◌≡◌, ◌∙◌, inl, inr, ℕ, ◌+◌, List, [], ◌∷◌, ◌++◌, length, Some, Result, Ok, refl, sym, ap, subst, append_assoc}
+use Rattle.std.proofs.Common.{◌≡◌, ◌∙◌, inl, inr, ℕ, ◌+◌, List, [], ◌∷◌, ◌++◌, length, Some, Result, Ok, sym, ap, subst, append_assoc}
 use Rattle.base_bech32.specs.declared.form.Form.{Form}
 use Rattle.rule_modules.specs.Chain.{State}
 use Rattle.run_generated.specs.Writing.{IsFront}

@@ -1,7 +1,6 @@
 -- What a run writes that goes on from where lines led is the rest of what one run writes.
 use Rattle.std.proofs.Common.{◌≡◌, ◌∙◌, ℕ, ◌+◌, Bool, true, false, List, [], ◌∷◌, ◌++◌, length, nat_lt, if◌then◌else◌, Option, Some, None, Result, Ok, Err, refl, sym, ap, subst, arith, option_map}
 use Rattle.base_bech32.specs.declared.form.Form.{Form}
-use Rattle.base_roles.specs.declared.refusal.Refusal.{Refusal}
 use Rattle.line_json.specs.{Block.block_of, Genesis.genesis_of}
 use Rattle.rule_machine.specs.{GenesisConditions.start_condition, Machine.{Step, step}}
 use Rattle.rule_machine.specs.Report as machine

@@ -1,9 +1,8 @@
 -- Runs that go on from the rows of their keeper.
-use Rattle.std.proofs.Common.{◌≡◌, ◌≢◌, ◌∙◌, ◌⊎◌, inl, inr, ℕ, Bool, true, false, true≢false, List, [], ◌∷◌, ◌++◌, Option, Some, None, Result, Ok, Err, IfSome, refl, sym, ap, subst, Ordering, Less, Equal, Greater, IsErrOf, IsSome}
+use Rattle.std.proofs.Common.{◌≡◌, ◌≢◌, ◌∙◌, ◌⊎◌, inl, inr, ℕ, true, false, true≢false, List, [], ◌∷◌, Option, Some, None, Result, Ok, Err, IfSome, refl, sym, ap, subst, Ordering, Less, Equal, Greater, IsErrOf}
 use Rattle.std.specs.{Prelude.⊤, List.AllByRecursion, Ordering.match_ordering}
 use Rattle.base_bech32.specs.declared.form.Form.{Form}
 use Rattle.chain_whole.specs.Chained.{Chained}
-use Rattle.run_generated.specs.Writing.{IsFront}
 use Rattle.base_io.specs.{declared.{keeper.{Change.Change, KeepFault.{KeepFault as Unkept}}}, Outside.Rose}
 use Rattle.base_io.specs.Rows.{Makes, Pair, key_cmp, put}
 use Rattle.base_io.specs.Changes.{ChangeRows, ChangesRows, IsOrdinary, LeavesRows, changed}
@@ -23,9 +22,9 @@ use Rattle.store_items.specs.Stored.{AreStored, rows_as, rows_in}
 use Rattle.run_app.specs.declared.status.Status.{Status}
 use Rattle.run_app.specs.declared.status.Status.TheVariants.{Done, Usage, BadInput, Limit, ReadFault, WriteFault, KeepFault, NoMemory, BadStore, WrongStore, NotFound, NoPast}
 use Rattle.run_app.specs.Counts.{Moved, is_keep_fault, is_read_fault, is_write_fault}
-use Rattle.run_app.specs.{Kept.{AreLeft, Began, BeganOnRows, Keeping, LeftIn}, Outcome.RunEnds}
-use Rattle.run_app.specs.Resumes.{Answers, AsksCalmly, Asked, FitsState, GoesOn, IsAnswered, IsUnresumed, QueryEnds, ResumeEnds, ResumesCalmly, on_rows_of, status_of_restore}
-use Rattle.run_app.specs.{Unkept.IsOfNoRows, Writes.{Adds, Writes}, Seen.{keeper_told, sink_told, source_told}}
+use Rattle.run_app.specs.{Kept.{Began, BeganOnRows, Keeping, LeftIn}, Outcome.RunEnds}
+use Rattle.run_app.specs.Resumes.{Answers, AsksCalmly, FitsState, GoesOn, IsAnswered, IsUnresumed, QueryEnds, ResumeEnds, ResumesCalmly, on_rows_of, status_of_restore}
+use Rattle.run_app.specs.{Unkept.IsOfNoRows, Writes.Writes, Seen.{keeper_told, sink_told, source_told}}
 use Rattle.run_app.proofs.{DriveLemmas.untroubled_run, ModeLemmas.{nothing, nothing_done, rows_left, written_to_end}}
 
 -- ---- rows that were loaded

@@ -8,8 +8,8 @@ use Rattle.law_soundness.proofs.{Burns.total_in, Points.to_fits, Running.{StepFi
 use Rattle.store_commits.specs.Held.{HasRisen}
 use Rattle.chain_whole.specs.Chained.{Chained}
 use Rattle.run_app.specs.{Kept.HasGrown, Machine.{SettledAt, Standing, block_answer}, Runs.AreAnswered}
-use Rattle.run_app.proofs.ReadLemmas.{block_has_coins, height_is_low, its_coins}
-use Rattle.run_app.proofs.{OnwardLemmas.step_sound, SoundLemmas.{Led, block_led, next_height, within}}
+use Rattle.run_app.proofs.{ReadLemmas.{block_has_coins, height_is_low, its_coins}, OnwardLemmas.step_sound}
+use Rattle.run_app.proofs.SoundLemmas.{Led, block_led, next_height, within}
 
 some_state : (p q : State) → Some p ≡ Some q → p ≡ q
 some_state p q e = cc

@@ -1,5 +1,5 @@
 -- What a stop may leave behind a run, whatever the status by which it ended.
-use Rattle.std.proofs.Common.{inl, inr, ◌≡◌, ◌∙◌, ◌⊎◌, ℕ, ◌+◌, List, [], ◌∷◌, ◌++◌, length, Option, Some, None, Ok, refl, sym, ap, subst, append_assoc, IfSome, IsSome, append-nil, arith}
+use Rattle.std.proofs.Common.{inl, inr, ◌≡◌, ◌∙◌, ◌⊎◌, ℕ, ◌+◌, List, [], ◌∷◌, ◌++◌, Option, Some, None, Ok, refl, sym, ap, subst, append_assoc, IfSome, IsSome, append-nil, arith}
 use Rattle.base_bech32.specs.declared.form.Form.{Form}
 use Rattle.run_generated.specs.Writing.{IsFront}
 use Rattle.base_io.specs.{Outside.IsPart, Rows.Pair}
@@ -16,10 +16,10 @@ use Rattle.run_app.specs.{Lines.{lines_of, lines_from, whole_from, rest_from}, M
 use Rattle.run_app.specs.{Modes.{ModeEnds, ReplayEnds}, Outcome.{AreEnded, Ends, Passed, RunEnds}}
 use Rattle.run_app.specs.Runs.{AreAnswered, Batched, Named, Wrote, Unkept, Held, Answered, Reported, Lacking, Finished}
 use Rattle.run_app.specs.{Resumes.ResumeEnds, declared.performing.Way.{Way, TheVariants.{Plain, Kept, Past}}}
-use Rattle.run_app.specs.{Commands.{CommandStops, WayStops, way_of}, Stops.{AreRowsBehind, LacksOfLast, ModeStops, RunStops}}
-use Rattle.run_app.specs.{Told.IsToldAs, Writes.Adds, Seen.{keeper_told, sink_told, source_told}}
-use Rattle.run_app.proofs.{CutLemmas.lines-append, RunLemmas.{answered-append, no_growth}}
-use Rattle.run_app.proofs.WholeLemmas.{Reports, reports}
+use Rattle.run_app.specs.Commands.{CommandStops, WayStops, way_of}
+use Rattle.run_app.specs.{Stops.{AreRowsBehind, LacksOfLast, ModeStops, RunStops}, Told.IsToldAs, Writes.Adds}
+use Rattle.run_app.{specs.Seen.{keeper_told, sink_told, source_told}, proofs.CutLemmas.lines-append}
+use Rattle.run_app.proofs.{RunLemmas.{answered-append, no_growth}, WholeLemmas.{Reports, reports}}
 use Rattle.store_history.specs.Held.{ShowsLeft, shown}
 
 -- ---- fronts of texts

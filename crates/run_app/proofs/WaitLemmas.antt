@@ -5,13 +5,10 @@ use Rattle.base_bech32.specs.declared.form.Form.{Form}
 use Rattle.base_io.specs.{Calls.AddsPart, Rows.Pair}
 use Rattle.chain_whole.specs.Chained.{Chained}
 use Rattle.run_app.specs.declared.status.LineStop.{LineStop, TheVariants.{BadInput, Long, Ratio, Write, Keep, NoMemory}}
-use Rattle.run_app.specs.Kept.{Began, HasGrown, Keeping, LeftIn}
-use Rattle.run_app.specs.Machine.{Answer, SettledAt, Standing, line_answer}
+use Rattle.run_app.specs.{Kept.{Began, HasGrown, Keeping, LeftIn}, Machine.{Answer, SettledAt, Standing, line_answer}}
 use Rattle.run_app.specs.Runs.{AreAnswered, Batched, Held, Unkept, Wrote}
-use Rattle.run_app.specs.Parts.{Grows, IsOfKeeper, IsOfSink, Loses, Stands, Waits}
-use Rattle.run_app.proofs.KeepLemmas.{left_of}
-use Rattle.run_app.proofs.RisenLemmas.{lines_grow, settled_sound}
-use Rattle.run_app.proofs.RunLemmas.{answered-append, grows_on, no_growth}
+use Rattle.run_app.{specs.Parts.{Grows, IsOfKeeper, IsOfSink, Loses, Stands, Waits}, proofs.KeepLemmas.left_of}
+use Rattle.run_app.proofs.{RisenLemmas.{lines_grow, settled_sound}, RunLemmas.{answered-append, grows_on, no_growth}}
 
 -- a text that was written is the growth
 pub grows_by : (w w' : Option (List ℕ)) (text : List ℕ) → IfSome w (λ bytes. w' ≡ Some (bytes ++ text)) → Grows w w' text

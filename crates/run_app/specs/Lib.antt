@@ -1,3 +1,4 @@
+pub mod Alone
 pub mod Ballots
 pub mod Checks
 pub mod Commands

@@ -58,7 +58,8 @@ pub(crate) fn finish<K: Sink>(
     sink: &mut K,
     chain: &Option<Chain>,
 ) -> Status
-    ensures status { (s : Standing) → StandsAt chain.now s → FinishStatus form (λ _ _. Unit {0}) 1 s []
+    ensures status { (s : Standing) → StandsAt chain.now s
+        → FinishStatus form (λ _ _. Unit {0}) 1 s []
         (K.written sink.old) (K.written sink.new) result }
     // That the genesis is missing takes no memory to tell.
     ensures missing { chain.now ≡ None → result ≡ Status.BadInput 1 InputFault.Missing }

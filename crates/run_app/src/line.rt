@@ -72,7 +72,8 @@ fn begin(
     number: u64,
     line: &[u8],
 ) -> Result<Chain, LineStop>
-    ensures ok { IfOk result (λ chain. HoldsAnswer (genesis_answer number (genesis_of form line.now))
+    ensures ok { IfOk result (λ chain. HoldsAnswer
+        (genesis_answer number (genesis_of form line.now))
         held.old.items held.new.items (StandsAt (Some chain))) }
     ensures settled { IfOk result (λ chain. chain.settled ≡ chain.kept) }
     ensures err { IfErr result
@@ -115,7 +116,8 @@ fn advance(
         held.old.items held.new.items (StandsAt (Some chain.new))) }
     ensures settled { OnOk result (chain.new.settled ≡ chain.old.settled) }
     ensures err { (p : State) → StandsFor chain.old.kept p
-        → IfErr result (λ stop. IsFault stop (block_answer form number p (block_of form line.now))) }
+        → IfErr result (λ stop. IsFault stop
+        (block_answer form number p (block_of form line.now))) }
     // A line that has a fault leaves the chain, and the texts that wait.
     ensures stays { IfErr result (λ stop. UnlessNoMemory stop ((held.new.items ≡ held.old.items)
         × (chain.new.kept ≡ chain.old.kept) × (chain.new.settled ≡ chain.old.settled))) }

@@ -81,8 +81,8 @@ pub(crate) fn perform<S: Source, K: Sink, D: Keeper>(
     requires every { 0 < command.every }
     requires few { HasFewBlocks command.mode }
     requires takes { TakesDistinct (D.takes keeper.old) }
-    ensures ends { WayEnds command.form command.every (way_of command) (by_source S.left source.old source.new)
-        (by_sink K.written sink.old sink.new)
+    ensures ends { WayEnds command.form command.every (way_of command)
+        (by_source S.left source.old source.new) (by_sink K.written sink.old sink.new)
         (by_keeper D.rows D.is_honest D.may_leave keeper.old keeper.new) result }
     ensures busy { result ≡ Status.Usage → ⊥ }
     ensures unkept { D.keeps keeper.old ≡ false → WayUnkept (way_of command)

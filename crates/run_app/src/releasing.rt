@@ -1,6 +1,6 @@
 //! The lines that wait: what they led to is committed, and only then their texts are written.
 
-ghost use Rattle.std.specs.Prelude.{◌≡◌, ◌≤◌, ◌<◌, ◌+◌, ◌++◌, ◌^◌, [], Some, ℕ, List, Option, length, IfErr, IfSome, OnErr, OnOk};
+ghost use Rattle.std.specs.Prelude.{◌≡◌, ◌<◌, ◌+◌, ◌++◌, ◌^◌, [], Some, ℕ, List, Option, length, IfErr, IfSome, OnErr, OnOk};
 ghost use Rattle.base_bech32.specs.declared.form.Form.{Form};
 ghost use Rattle.base_io.specs.Calls.{AddsPart};
 ghost use Rattle.run_app.specs.Counts.{Moved};

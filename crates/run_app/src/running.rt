@@ -1,10 +1,11 @@
 //! The commands: `run` reads the words of one, carries it out over a source, a sink and a keeper, and tells by a status
 //! how it ended.
 
-ghost use Rattle.std.specs.Prelude.{◌≡◌, ◌≤◌, ◌<◌, ◌^◌, ◌+◌, ◌⊎◌, [], ◌∷◌, List, ℕ, Option, Some, None, length, map, string_bytes, true, false, MatchResult};
+ghost use Rattle.std.specs.Prelude.{◌≡◌, ◌≤◌, ◌<◌, ◌^◌, ◌+◌, ◌⊎◌, [], List, ℕ, Option, None, length, map, string_bytes, true, false, MatchResult};
 ghost use Rattle.base_bech32.specs.declared.form.Form.{Form};
 ghost use Rattle.base_io.specs.Outside.{Rose};
-ghost use Rattle.run_app.specs.Counts.{IsOfWords, Moved, ReadMoved, every_of, is_keep_fault, is_read_fault, is_write_fault};
+ghost use Rattle.run_app.specs.Alone.{EachLineAlone};
+ghost use Rattle.run_app.specs.Counts.{IsOfWords, Moved, ReadMoved, every_of, is_keep_fault, is_write_fault};
 ghost use Rattle.run_app.specs.Kept.{Began, Keeping, LeftIn};
 ghost use Rattle.run_app.specs.Machine.{Standing};
 ghost use Rattle.run_words.specs.Words.{command_of};
@@ -464,6 +465,8 @@ pub fn run<S: Source, K: Sink, D: Keeper>(
         → ¬ Rose (S.faults source.old) (S.faults source.new)
         → ¬ Rose (K.faults sink.old) (K.faults sink.new)
         → (result ≡ Status.Done) ⊎ (result ≡ Status.NoMemory) }
+    // Without `every`, where N is 1, what is said of at most N lines is said of one.
+    ensures alone { EachLineAlone }
     // In each form of addresses: lines that are answered are a replay, and what was written for them is what it reports.
     ensures replayed { (form : Form) → LinesAreReplayed form }
     ensures whole { (form : Form) → AnswersAreReplays form }

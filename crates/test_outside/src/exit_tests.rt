@@ -222,3 +222,15 @@ fn a_failed_read_leaves_the_lines_that_waited(rt: HostRuntime) {
         assert!(rt; grouped_exits(&rt, &fronts, "1000000", Failing::Source, call, &exit));
     }
 }
+
+#[test]
+fn a_failed_commit_of_a_batch_leaves_the_lines_before_it(rt: HostRuntime) {
+    let fronts = make_fronts(&rt);
+    let mut call = 0u32;
+    // A load, and the commits of the genesis, of two blocks, and of one.
+    for lines in [0, 0, 1, 3] {
+        let exit = exit_of(true, Status::KeepFault, lines, Some(lines));
+        assert!(rt; grouped_exits(&rt, &fronts, "2", Failing::Keeper, call, &exit));
+        call = call.saturating_add(1);
+    }
+}

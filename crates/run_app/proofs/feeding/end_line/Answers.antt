@@ -1,5 +1,4 @@
-use Rattle.std.proofs.Common.{◌≡◌, ◌∙◌, ◌++◌, ap, refl}
-use Rattle.run_app.specs.Lines.{rest_from}
+use Rattle.std.proofs.Common.{◌∙◌, ◌++◌, ap}
 use Rattle.run_app.proofs.CountLemmas.{extended_keeps, extended_writes}
 use Rattle.run_app.proofs.PartLemmas.{extend_stops, line_fed, line_stops}
 use Rattle.run_app.proofs.feeding.end_line.Goals as goal

@@ -1,6 +1,5 @@
-use Rattle.std.proofs.Common.{◌≡◌, ◌∙◌, ◌+◌, ◌++◌, ◌∷◌, [], ap, refl, sym, arith, append-nil, append_assoc, take, drop}
-use Rattle.run_app.specs.Parts.{HasNoEnd}
-use Rattle.run_app.proofs.CountLemmas.{all_keeps, all_writes}
+use Rattle.std.proofs.Common.{◌∙◌, ◌+◌, ◌++◌, ◌∷◌, [], refl, arith, append-nil, append_assoc, take, drop}
+use Rattle.run_app.{specs.Parts.HasNoEnd, proofs.CountLemmas.{all_keeps, all_writes}}
 use Rattle.run_app.proofs.PartLemmas.{piece_extends, piece_number, piece_stops, rest_fed, rest_of, taken_on}
 use Rattle.run_app.proofs.feeding.feed.Goals as goal
 

@@ -1,6 +1,5 @@
 use Rattle.std.proofs.Common.{refl}
-use Rattle.run_app.proofs.AnswerLemmas.{block_not_read, faults_on, stays_on, steps_on}
-use Rattle.run_app.proofs.LineLemmas.{unless_so}
+use Rattle.run_app.proofs.{AnswerLemmas.{block_not_read, faults_on, stays_on, steps_on}, LineLemmas.unless_so}
 use Rattle.run_app.proofs.line.advance.Goals as goal
 
 pub returns-in-Err-clause-err : goal.returns-in-Err-clause-err

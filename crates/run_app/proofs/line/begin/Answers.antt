@@ -1,5 +1,4 @@
-use Rattle.run_app.proofs.AnswerLemmas.{begins}
-use Rattle.run_app.proofs.LineLemmas.{unless_so}
+use Rattle.run_app.proofs.{AnswerLemmas.begins, LineLemmas.unless_so}
 use Rattle.std.proofs.Common.{refl}
 use Rattle.run_app.proofs.line.begin.Goals as goal
 

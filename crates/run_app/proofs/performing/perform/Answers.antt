@@ -1,6 +1,5 @@
 use Rattle.std.proofs.Common.{◌∙◌, refl, sym}
-use Rattle.run_app.proofs.CountLemmas.{quiet_read, still_read}
-use Rattle.run_app.proofs.WayLemmas.{kept_commits, plain_few}
+use Rattle.run_app.proofs.{CountLemmas.{quiet_read, still_read}, WayLemmas.{kept_commits, plain_few}}
 use Rattle.run_app.proofs.performing.perform.Goals as goal
 
 pub carry_out-requires : goal.carry_out-requires

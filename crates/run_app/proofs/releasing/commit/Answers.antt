@@ -1,4 +1,3 @@
-use Rattle.std.proofs.Common.{refl}
 use Rattle.run_app.proofs.KeepLemmas.{next_held, none_kept, stands_at, was_kept, was_unkept}
 use Rattle.run_app.proofs.LineLemmas.{not_kept_is, not_kept_moved}
 use Rattle.run_app.proofs.releasing.commit.Goals as goal

@@ -1,6 +1,5 @@
 use Rattle.std.proofs.Common.{◌≡◌, ◌<◌, ℕ, arith}
-use Rattle.run_app.specs.Kept.{LeftIn}
-use Rattle.run_app.proofs.CountLemmas.{keeper_loss, keeper_moved, on_stop, sink_loss, sink_moved}
+use Rattle.run_app.{specs.Kept.LeftIn, proofs.CountLemmas.{keeper_loss, keeper_moved, on_stop, sink_loss, sink_moved}}
 use Rattle.run_app.proofs.WaitLemmas.{has_grown, keep_loses, stands_fewer, stands_released, stands_unwritten}
 use Rattle.run_app.proofs.releasing.release.Goals as goal
 

@@ -1,6 +1,6 @@
 use Rattle.std.proofs.Common.{inl, inr, refl, ap, Err}
-use Rattle.run_app.specs.Resumes.{status_of_restore}
-use Rattle.run_app.proofs.{CountLemmas.quiet_read, DriveLemmas.begun_busy, PartLemmas.rose_later, ModeLemmas.nothing_done}
+use Rattle.run_app.{specs.Resumes.status_of_restore, proofs.{CountLemmas.quiet_read, DriveLemmas.begun_busy}}
+use Rattle.run_app.proofs.{PartLemmas.rose_later, ModeLemmas.nothing_done}
 use Rattle.run_app.proofs.ResumeLemmas.{all_taken, each_changes, leads_first, never_none, no_rows_found, not_brought, not_resumed, resumed_first, unresumed_busy, unresumed_keeps, unresumed_unread, unresumed_writes, went_on}
 use Rattle.run_app.proofs.resuming.resume.Goals as goal
 

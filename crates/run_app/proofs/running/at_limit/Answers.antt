@@ -1,4 +1,4 @@
-use Rattle.std.proofs.Common.{rules, arith, refl, inl, inr, ◌≡◌, ◌∙◌, ◌⊎◌, ◌≢◌, ◌<◌, ◌≤◌, ℕ, [], length, slice_index_or}
+use Rattle.std.proofs.Common.{rules, arith, refl, inl, inr, ◌≡◌, ◌⊎◌, ◌≢◌, ◌<◌, ◌≤◌, ℕ, [], length, slice_index_or}
 use Rattle.run_app.specs.{Kept.LeftIn, Machine.longest, Parts.Stands}
 use Rattle.run_app.proofs.CountLemmas.{loss_stopped, part_keeps, part_reads, part_writes}
 use Rattle.run_app.proofs.DriveLemmas.{byte_or, fed_fewer, fed_more, fed_released, first_of, limit_lost, long_ends, pass_ends, paused_from, read_ends, told_all}

@@ -1,8 +1,7 @@
-use Rattle.std.proofs.Common.{◌≡◌, ◌∙◌, ◌<◌, ℕ, arith, refl, sym}
+use Rattle.std.proofs.Common.{◌∙◌, ◌<◌, ℕ, arith}
 use Rattle.run_app.specs.Parts.{Stands}
 use Rattle.run_app.proofs.CountLemmas.{begun_by, lost_read, part_keeps, part_undone, part_writes, paused_begun, paused_keeps, paused_undone, paused_writes, quiet_read, still_read, stopped_begun, stopped_undone}
-use Rattle.run_app.proofs.DriveLemmas.{ends_from, pause_ends, pause_first, pause_lost}
-use Rattle.run_app.proofs.PartLemmas.{finish_ends}
+use Rattle.run_app.proofs.{DriveLemmas.{ends_from, pause_ends, pause_first, pause_lost}, PartLemmas.finish_ends}
 use Rattle.run_app.proofs.WaitLemmas.{all_written, stands_more}
 use Rattle.run_app.proofs.running.drive.Goals as goal
 

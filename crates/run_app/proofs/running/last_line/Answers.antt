@@ -1,4 +1,4 @@
-use Rattle.std.proofs.Common.{◌≡◌, ◌<◌, ◌≤◌, [], inr, length, refl, rules, sym}
+use Rattle.std.proofs.Common.{◌≡◌, ◌<◌, [], inr, length, refl, rules, sym}
 use Rattle.run_app.specs.{Kept.LeftIn, Parts.Stands}
 use Rattle.run_app.proofs.CountLemmas.{ending_keeps, ending_reads, ending_stopped, ending_writes}
 use Rattle.run_app.proofs.DriveLemmas.{last_stops, stop_paused, with_last, without_last}

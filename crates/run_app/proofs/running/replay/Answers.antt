@@ -1,4 +1,4 @@
-use Rattle.std.proofs.Common.{inl, inr, refl, sym, ap, ◌∙◌, true≢false, None, Ok}
+use Rattle.std.proofs.Common.{inl, inr, refl, sym, ap, ◌∙◌, true≢false, Ok}
 use Rattle.run_app.{specs.Kept.on_none, proofs.{DriveLemmas.{begun_busy, begun_unkept}, KeepLemmas.begins_on_none}}
 use Rattle.run_app.proofs.ModeLemmas.{nothing_done, rows_left}
 use Rattle.run_app.proofs.running.replay.Goals as goal

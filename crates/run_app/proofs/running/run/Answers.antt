@@ -1,6 +1,7 @@
 use Rattle.std.proofs.Common.{map, string_bytes}
 use Rattle.run_words.specs.Words.{command_of}
 use Rattle.run_app.{specs.{Commands.way_of, Counts.every_of}, proofs.ModeLemmas.fit_command}
+use Rattle.run_app.proofs.AloneLemmas.{each_line_alone}
 use Rattle.run_app.proofs.CommandLemmas.{complete_unasked, ends_unasked, is_of_command, is_of_no_command, kept_unasked, read_unasked, unkept_unasked, write_unasked}
 use Rattle.run_app.proofs.{CountLemmas.{rose_keep, rose_read, rose_write}, RejoinLemmas.runs_go_on}
 use Rattle.run_app.proofs.{RightLemmas.statements_right, SoundLemmas.lines_replayed, StopLemmas.stops_unbegun}
@@ -64,6 +65,12 @@ pub returns-in-Err-clause-complete : goal.returns-in-Err-clause-complete
 returns-in-Err-clause-complete g c = rw c.status_of_words.ensures (λ calm reads writes. complete_unasked c.in-Err.fault _ _ _ _ _ _ _ c.in-Err.ensures.usage calm)
 
 -- ---- laws
+
+pub returns-in-Ok-clause-alone : goal.returns-in-Ok-clause-alone
+returns-in-Ok-clause-alone g c = each_line_alone
+
+pub returns-in-Err-clause-alone : goal.returns-in-Err-clause-alone
+returns-in-Err-clause-alone g c = each_line_alone
 
 pub returns-in-Ok-clause-replayed : goal.returns-in-Ok-clause-replayed
 returns-in-Ok-clause-replayed g c = lines_replayed

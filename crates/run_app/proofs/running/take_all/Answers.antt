@@ -1,4 +1,4 @@
-use Rattle.std.proofs.Common.{rules, arith, refl, inl, ◌≡◌, ◌∙◌, ◌≤◌, ◌<◌, ◌+◌, ◌++◌, [], ℕ, List, length, take, length-append, length-take-le}
+use Rattle.std.proofs.Common.{rules, arith, refl, inl, ◌≡◌, ◌∙◌, ◌≤◌, ◌+◌, ◌++◌, [], ℕ, List, length, take, length-append, length-take-le}
 use Rattle.run_app.specs.{Kept.LeftIn, Outcome.most_bytes, Parts.Stands}
 use Rattle.run_app.proofs.CountLemmas.{ending_keeps, ending_reads, ending_stopped, ending_writes}
 use Rattle.run_app.proofs.DriveLemmas.{fed_first, paused_from, read_paused, stop_paused, told_all, told_first, told_more, told_rest, told_still}
