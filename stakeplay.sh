@@ -1,98 +1,175 @@
 #!/usr/bin/env bash
-# Runs the program with these arguments, standard input passed on. Of these the first that there is runs, and what runs is
-# said on standard error unless it is the first (the checks name the program that they try, by the variable STAKEPLAY):
-#   1. the program that was built here (by `.ci/run`, or by `rt run` in crates/stakeplay), where no source is newer;
-#   2. the released program (release/), for x86-64 Linux, where the sources are those that it was built from;
-#   3. the kit's interpreter over the sources, which proves nothing, is slow, and writes at most 1 MiB.
-# `stakeplay.sh --help`, or no words at all, prints the commands.
-here="$(cd "$(dirname "$0")" && pwd)"
+# Runs the program, standard input passed on: `stakeplay.sh COMMAND [WORDS] [FLAGS]`, or in plain words `STORE WORDS`,
+# which are passed on as they are. `--help` prints the commands, `COMMAND --help` one of them, `--version` what runs.
+# Which program runs, the first that there is of these:
+#   1. the one that the variable STAKEPLAY names
+#   2. in an installation (install.sh), the one that was installed
+#   3. the one that was built here (by `.ci/run`, or by `rt run` in crates/stakeplay), where no source is newer
+#   4. the released one (release/), for x86-64 Linux, where the sources are those that it was built from; so that
+#      nothing stale runs, their sum is taken once, and again when one of them was touched since
+#   5. the kit's interpreter over the sources, which proves nothing, is slow, and writes at most 1 MiB; it says so
+# A run that does not end well is told by the program's own line, and by a second line that says more. Where the
+# variable STAKEPLAY_PLAIN is set there is none, and this script becomes the program. STAKEPLAY_VERBOSE says which
+# program runs.
+self="${BASH_SOURCE[0]}"
+while [ -L "$self" ]; do
+    link="$(readlink "$self")"
+    case "$link" in /*) self="$link" ;; *) self="${self%/*}/$link" ;; esac
+done
+case "$self" in */*) here="${self%/*}" ;; *) here=. ;; esac
+called="$0"
+case "$called" in /*) called="${called##*/}" ;; esac
+base="$here" installed=''
+if [ ! -d "$here/crates" ] && [ -d "$here/../share/stakeplay/command" ]; then
+    base="$here/../share/stakeplay" installed="$here/../libexec/stakeplay/stakeplay"
+fi
+parts="$base/command"
 
-usage() {
-    cat <<'TEXT'
-stakeplay STORE COMMAND   replays the proof-of-stake accounting of a Cosmos SDK v0.47 chain
-
-STORE is a file that keeps the state, made where there is none, or - for none. COMMAND is one of:
-
-  replay                  reads a genesis and blocks, a line each, and writes what each does, then a report
-                            ./stakeplay.sh - replay < examples/history.jsonl
-  resume                  the same from what STORE has: each line is a block
-                            tail -n +5 examples/history.jsonl | ./stakeplay.sh chain.db resume
-  query supply|pool|validators
-  query account|validator|delegations|rewards|unbondings|redelegations|signing ADDRESS
-                          answers from what STORE has
-                            ./stakeplay.sh chain.db query supply
-  keep replay, keep resume
-                          the same, and what each block replaces is kept in STORE too
-                            ./stakeplay.sh chain.db keep replay < examples/history.jsonl
-  past HEIGHT query ...   answers from what STORE had after that height
-                            ./stakeplay.sh chain.db past 3 query supply
-  tally                   reads ballots, a line each, and counts them by the stake of what STORE has
-                            ./stakeplay.sh chain.db tally < ballots.jsonl
-  statement DELEGATOR OPERATOR
-                          reads what replay reads, and writes a statement of each payment of the delegator's rewards from
-                          the operator's validator
-                            ./stakeplay.sh - statement DELEGATOR OPERATOR < examples/history.jsonl | ./stakeplay.sh - check
-  check                   reads reward statements, a line each, and says of each whether it is right
-                            ./stakeplay.sh - check < examples/recipes/statements.jsonl
-  gen SEED COUNT          writes a generated input with COUNT blocks
-                            ./stakeplay.sh - gen 7 100 | ./stakeplay.sh - replay
-  trial SEED COUNT        replays that input and writes a summary of one line
-                            ./stakeplay.sh - trial 7 1000
-
-  bech32 COMMAND          the same, with addresses as explorers print them in place of 40 digits
-                            ./stakeplay.sh - bech32 gen 7 100 | ./stakeplay.sh - bech32 replay
-
-README.md has an example, docs/FORMATS.md every line in and out, docs/OPERATING.md how a run can end.
-TEXT
+# Whether these words are in the natural order: the command first, or a flag.
+is_natural() {
+    case "$1" in
+    -) case "$2" in --help | -h | --version | -V) return 0 ;; *) return 1 ;; esac ;;
+    -* | help) return 0 ;;
+    esac
+    # plain words: what stands behind the store
+    case "$2" in replay | resume | query | tally | check | statement | gen | trial | keep | every | past | bech32) return 1 ;; esac
+    case "${1,,}" in replay | resume | query | tally | check | statement | gen | trial | version) return 0 ;; esac
+    return 1
 }
 
-if [ $# -eq 0 ] || [ "$1" = --help ] || [ "$1" = -h ]; then
-    usage
-    exit 0
-fi
+# Keeps in `program` which one runs, and in `found` by which of the lines above.
+find_program() {
+    program="${STAKEPLAY:-}" found=named
+    [ -z "$program" ] || [ "$program" -ef "$self" ] || return 0
+    program="$installed" found=installed
+    [ -z "$program" ] || return 0
+    program="$here/crates/stakeplay/out/stakeplay" found=built
+    if [ -x "$program" ] && [ -z "$(find "$here"/crates/*/src -newer "$program" -type f -name '*.rt' -print -quit)" ]; then
+        return 0
+    fi
+    . "$here/release/release.bash"
+    found=released
+    find_released "$here"
+}
 
-if [ -n "${STAKEPLAY:-}" ]; then
-    exec "$STAKEPLAY" "$@"
-fi
+# Runs the program with plain words, and ends as it does. It is a child, so that a second line can follow its own;
+# signals that end this script are passed on to it.
+run() {
+    [ -z "${STAKEPLAY_VERBOSE:-}" ] || echo "stakeplay.sh: $program ($found) runs: $*" >&2
+    if [ -n "${STAKEPLAY_PLAIN:-}" ] || ! is_able; then
+        exec "$program" "$@"
+    fi
+    local name pid='' caught='' status line last='' told end="end of $$"
+    for name in HUP INT QUIT TERM; do
+        trap "caught=$name; [ -z \"\$pid\" ] || kill -TERM \"\$pid\" 2>/dev/null" "$name"
+    done
+    # a pipe for its standard error, which this script reads and ends
+    { exec {told}<> <(:); } 2>/dev/null || exec "$program" "$@"
+    "$program" "$@" <&0 2>&"$told" &
+    pid=$!
+    [ -z "$caught" ] || kill -TERM "$pid" 2>/dev/null   # it came before the child was known
+    wait "$pid" 2>/dev/null
+    status=$?
+    while [ -n "$caught" ] && kill -0 "$pid" 2>/dev/null; do wait "$pid" 2>/dev/null; done
+    echo "$end" >&"$told"
+    while IFS= read -r line <&"$told" && [ "$line" != "$end" ]; do
+        last="${line%"$end"}"
+        if [ "$last" != "$line" ]; then printf '%s' "$last" >&2; break; fi
+        printf '%s\n' "$line" >&2
+    done
+    if [ -n "$caught" ]; then
+        die_by "$caught"
+    elif [ "$status" -gt 128 ]; then
+        die_by $((status - 128))
+    elif [ "$status" != 0 ]; then
+        . "$parts/explain.bash"
+        explained "$status" "$last" >&2
+    fi
+    exit "$status"
+}
 
-# 1. what was built here
-built="$here/crates/stakeplay/out/stakeplay"
-newer() { find "$here/crates" -name out -prune -o -type f \( -name '*.rt' -o -name '*.antt' \) -newer "$built" -print -quit; }
-if [ -x "$built" ] && [ -z "$(newer)" ]; then
-    exec "$built" "$@"
-fi
+# Whether the program can be a child here: the shell is not old, and the three files of the script are open.
+is_able() {
+    [ "${BASH_VERSINFO[0]}" -gt 4 ] || [ "${BASH_VERSINFO[0]}${BASH_VERSINFO[1]}" = 44 ] || return 1
+    [ -e /dev/fd/0 ] && [ -e /dev/fd/1 ] && [ -e /dev/fd/2 ]
+}
 
-# 2. the release
-. "$here/release/release.bash"
-if released="$(released_program "$here")"; then
-    echo "stakeplay.sh: the released program of $(release_word "$here" made) runs, since its sources are these" >&2
-    exec "$released" "$@"
-fi
+# Ends by a signal, as the program did; by one that shells ignore, with the status that they have for it.
+die_by() {
+    local number="$1"
+    [ "$number" -gt 0 ] 2>/dev/null || number="$(kill -l "$number")"
+    ulimit -c 0
+    trap - HUP INT QUIT TERM
+    kill -"$number" $$
+    exit $((number + 128))
+}
 
-# 3. the interpreter
-if ! command -v rt >/dev/null; then
-    echo 'stakeplay.sh: the program is not built here, the release is of other sources or for another machine, and rt, the' >&2
-    echo 'stakeplay.sh: command of the Rattle kit, is not on the path' >&2
-    exit 69
+# Prints the version, the day and the sources of what runs.
+told_version() {
+    local version sources='' made=''
+    read -r version <"$base/VERSION"
+    . "$base/release/release.bash"
+    if find_program; then
+        case "$found" in
+        named) made="$(date -u -r "$program" +%Y-%m-%d)" sources="of $program" ;;
+        built) made="$(date -u -r "$program" +%Y-%m-%d)" sources="sources $(sources_sum "$here" "$(release_word "$here" crates)")" ;;
+        *) made="$(release_word "$base" made)" sources="sources $(release_word "$base" sources)" ;;
+        esac
+        echo "stakeplay $version, $found $made, $sources"
+    else
+        echo "stakeplay $version, sources $(sources_sum "$here" "$(release_word "$here" crates)"), of which no program is here"
+    fi
+}
+
+# The interpreter, where there is no program.
+interpreted() {
+    if ! command -v rt >/dev/null; then
+        echo 'stakeplay.sh: the program is not built here, the release is of other sources or for another machine, and rt, the' >&2
+        echo 'stakeplay.sh: command of the Rattle kit, is not on the path' >&2
+        exit 69
+    fi
+    {
+        echo 'stakeplay.sh: the program is not built, or a source is newer, and the release is of other sources: the interpreter'
+        echo 'stakeplay.sh: runs them, which is slow and proves nothing. To build the program: (cd crates/stakeplay && rt run)'
+    } >&2
+    # a store is named from where this was called
+    case "${1:-}" in
+    -* | /* | '') ;;
+    *) set -- "$PWD/$1" "${@:2}" ;;
+    esac
+    cd "$here/crates/stakeplay" || exit 70
+    local log status
+    log="$(mktemp)"
+    trap 'rm -f "$log"' EXIT
+    rt try -- "$@" 2>"$log"
+    status=$?
+    grep -a '^stakeplay: ' "$log" >&2
+    if ! grep -aq '^run=ended' "$log"; then
+        cat "$log" >&2
+        echo 'stakeplay.sh: the interpreter did not come to an end; build the program for larger inputs' >&2
+        exit 70
+    fi
+    exit $status
+}
+
+plain=("$@") order=plain
+if [ $# -eq 0 ] || is_natural "$1" "${2:-}"; then
+    order=natural asked=help command='' why=''
+    . "$parts/table.bash"
+    . "$parts/words.bash"
+    [ "${1:-}" != - ] || shift
+    [ $# -eq 0 ] || read_natural "$@"
+    case "$asked" in
+    help) told_help "$command"; exit 0 ;;
+    version) told_version; exit 0 ;;
+    esac
+    if [ -n "$why" ]; then
+        echo 'stakeplay: usage' >&2
+        [ -n "${STAKEPLAY_PLAIN:-}" ] || echo "stakeplay: $why" >&2
+        exit 1
+    fi
 fi
-{
-    echo 'stakeplay.sh: the program is not built, or a source is newer, and the release is of other sources: the interpreter'
-    echo 'stakeplay.sh: runs them, which is slow and proves nothing. To build the program: (cd crates/stakeplay && rt run)'
-} >&2
-# a store is named from where this was called
-case "$1" in
--* | /*) ;;
-*) set -- "$PWD/$1" "${@:2}" ;;
-esac
-cd "$here/crates/stakeplay" || exit 70
-log="$(mktemp)"
-trap 'rm -f "$log"' EXIT
-rt try -- "$@" 2>"$log"
-status=$?
-grep -a '^stakeplay: ' "$log" >&2
-if ! grep -aq '^run=ended' "$log"; then
-    cat "$log" >&2
-    echo 'stakeplay.sh: the interpreter did not come to an end; build the program for larger inputs' >&2
-    exit 70
+if find_program; then
+    run "${plain[@]}"
 fi
-exit $status
+interpreted "${plain[@]}"

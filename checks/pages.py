@@ -2,11 +2,12 @@
 import contextlib, http.server, pathlib, re, shutil, subprocess, sys, tempfile, threading
 
 PROGRAM = pathlib.Path(sys.argv[1]).resolve()
+SCRIPT = pathlib.Path("stakeplay.sh").resolve()
 EXAMPLES = pathlib.Path("examples")
 DATA = EXAMPLES / "recipes/data"
-PAGES = ["README.md", "CONTRIBUTING.md", "docs/FORMATS.md", "docs/OPERATING.md", "docs/RECIPES.md", "docs/FROM_A_NODE.md"]
+PAGES = ["README.md", "CONTRIBUTING.md", "docs/COMMANDS.md", "docs/FORMATS.md", "docs/OPERATING.md", "docs/RECIPES.md", "docs/FROM_A_NODE.md"]
 # the words that begin a command; what else is indented shows code, files or words
-BEGINS = re.compile(r"(bash|cd|curl|head|python3|rt|seq|sqlite3|tail|tar) |\./stakeplay\.sh |\w+=")
+BEGINS = re.compile(r"(bash|cd|curl|head|python3|rt|seq|sqlite3|tail|tar) |\./(stakeplay|install)\.sh |\w+=")
 OPERATOR, USER = "02" + "07" * 19, "5" * 40
 PAYING = "1" * 40  # the operator of the example's history whose validator pays the user twice
 MARK = "@@@"
@@ -38,12 +39,6 @@ def blocks_of(page):
     return [block for block in fenced + indented if BEGINS.match(block)]
 
 
-def blocks_of_help():
-    """The examples that `stakeplay.sh --help` prints, each a block."""
-    told = subprocess.run(["bash", "stakeplay.sh", "--help"], capture_output=True, text=True, check=True).stdout
-    return [line.strip() + "\n" for line in told.splitlines() if re.match(r" {8,}.*stakeplay\.sh ", line)]
-
-
 class Node(http.server.BaseHTTPRequestHandler):
     """A node that has the made chain: it answers with its files."""
 
@@ -60,10 +55,11 @@ class Node(http.server.BaseHTTPRequestHandler):
 
 
 def new_room(room):
-    """A folder as a reader's, with the program under the name of the script, and the chain's own program beside it."""
+    """A folder as a reader's, with the script, which runs the program that is tried, and the chain's own program beside it."""
     for folder in (EXAMPLES, "python"):
         shutil.copytree(folder, room / folder, ignore=shutil.ignore_patterns("__pycache__"))
-    bodies = {"stakeplay.sh": f'exec "{PROGRAM}" "$@"', "simd": 'cp "examples/recipes/data/export_$3.json" "$5"'}
+    bodies = {"stakeplay.sh": f'STAKEPLAY="{PROGRAM}" exec bash "{SCRIPT}" "$@"',
+              "install.sh": f'STAKEPLAY="{PROGRAM}" exec bash "{SCRIPT.with_name("install.sh")}" "$@"', "simd": 'cp "examples/recipes/data/export_$3.json" "$5"'}
     for name, body in bodies.items():
         (room / name).write_text(f"#!/bin/sh\n{body}\n")
         (room / name).chmod(0o755)
@@ -95,6 +91,10 @@ def writes(text):
     return lambda out, err: (out, err) == (text, "")
 
 
+def writes_usage(out, err):
+    return out == "" and err.startswith("stakeplay: usage\n")
+
+
 def says(text):
     return lambda out, err: text in out + err
 
@@ -117,6 +117,9 @@ def spelled_rewards(out, err):
                                         if f'"delegator":"{address}","kind":"pending"' in line)
 
 
+SPELLED = re.search(r"query rewards (cosmos1\w+)", pathlib.Path("README.md").read_text())[1]     # of the user
+KNOWS_EVERY = subprocess.run([PROGRAM, "-", "every", "1", "replay"], stdin=subprocess.DEVNULL, capture_output=True).returncode != 1
+KEPT = "./stakeplay.sh replay --store kept.db --keep < examples/history.jsonl > kept.out\n"
 REPLAYED = "head -n 4 examples/history.jsonl | ./stakeplay.sh chain.db replay > begun.out\n"
 BALLOTS = '{"kind":"ballot","voter":"' + USER + '","option":"yes"}'
 # the page; how the block begins; what comes before it; what a reader puts in; for each command what it is to write, or the
@@ -127,10 +130,13 @@ ROWS = [
     ("README.md", "head -n 4", "", {}, [begins, writes(REST), spelled_rewards, finds_right]),
     ("CONTRIBUTING.md", "cd crates/mod_staking", None, {}, None),
     ("docs/FORMATS.md", "sqlite3 FILE", REPLAYED, {"FILE": "chain.db"}, [writes(f"{851:032X}\n")]),
+    ("docs/OPERATING.md", "./install.sh", "", {"/usr/local": "$PWD/there"}, [says("installed in"), says("taken away from")]),
     ("docs/OPERATING.md", "sqlite3 chain.db", REPLAYED, {}, [writes("4\n")]),
     ("docs/OPERATING.md", "python3 -c", REPLAYED, {}, [writes("4\n")]),
     ("docs/OPERATING.md", "H=..", REPLAYED, {"H=..": "H=4", "all.jsonl": "examples/history.jsonl"},
      [writes(""), writes(REST)]),
+    ("docs/OPERATING.md", "./stakeplay.sh chain.db every", "", {"all.jsonl": "examples/history.jsonl"},
+     [writes(WHOLE) if KNOWS_EVERY else (1, writes_usage)]),
     ("docs/OPERATING.md", "./stakeplay.sh chain.db keep replay", "",
      {"all.jsonl": "examples/history.jsonl", "1000": "3", "ADDRESS": USER}, [writes(WHOLE), says('"kind":"account"')]),
     ("docs/RECIPES.md", "python3 examples/recipes/from_export.py export.json", "",
@@ -154,19 +160,17 @@ ROWS = [
      {"1000001 10000 1090001": "1001 1 1003", "9999": "0"}, [writes(""), writes("")]),
     ("docs/FROM_A_NODE.md", "tar", "H=1002; cp -r examples/recipes/data/blocks blocks\n"
      "touch before.json after.json differences.txt\n", {}, [writes("")]),
-    ("--help", "./stakeplay.sh - replay", "", {}, [writes(WHOLE)]),
-    ("--help", "tail", REPLAYED, {}, [writes(REST)]),
-    ("--help", "./stakeplay.sh chain.db query supply", REPLAYED, {}, [says('"kind":"supply"}')]),
-    ("--help", "./stakeplay.sh chain.db keep replay", "", {}, [writes(WHOLE)]),
-    ("--help", "./stakeplay.sh chain.db past 3 query supply", REPLAYED.replace("replay", "keep replay"), {},
-     [says('"kind":"supply"}')]),
-    ("--help", "./stakeplay.sh - statement", "", {"DELEGATOR": USER, "OPERATOR": PAYING}, [finds_right]),
-    ("--help", "./stakeplay.sh - check", "", {}, [says('"kind":"checked"')]),
-    ("--help", "./stakeplay.sh chain.db tally", f"{REPLAYED}echo '{BALLOTS}' > ballots.jsonl\n", {},
+    ("docs/COMMANDS.md", "./stakeplay.sh replay", "", {},
+     [writes(WHOLE), writes(WHOLE), writes(WHOLE) if KNOWS_EVERY else (1, writes_usage)]),
+    ("docs/COMMANDS.md", "tail", REPLAYED, {}, [writes(REST)]),
+    ("docs/COMMANDS.md", "./stakeplay.sh query supply", KEPT + REPLAYED, {"ADDRESS": SPELLED},
+     [says('"kind":"supply"}'), says('"kind":"pending"')]),
+    ("docs/COMMANDS.md", "./stakeplay.sh tally", f"{REPLAYED}echo '{BALLOTS}' > ballots.jsonl\n", {},
      [says('"kind":"tally"')]),
-    ("--help", "./stakeplay.sh - gen", "", {}, [ends_by_pool]),
-    ("--help", "./stakeplay.sh - trial", "", {}, [says('"blocks":1000')]),
-    ("--help", "./stakeplay.sh - bech32 gen", "", {}, [ends_by_pool]),
+    ("docs/COMMANDS.md", "./stakeplay.sh statement", "", {"DELEGATOR": USER, "OPERATOR": PAYING}, [finds_right]),
+    ("docs/COMMANDS.md", "./stakeplay.sh check", "", {}, [says('"kind":"checked"')]),
+    ("docs/COMMANDS.md", "./stakeplay.sh gen", "", {}, [ends_by_pool, ends_by_pool]),
+    ("docs/COMMANDS.md", "./stakeplay.sh trial", "", {}, [says('"blocks":1000')]),
 ]
 bad, count = [], 0
 
@@ -211,7 +215,7 @@ with http.server.ThreadingHTTPServer(("127.0.0.1", 0), Node) as server, contextl
     stack.callback(server.shutdown)
     left = list(ROWS)
     blocks = [(page, block) for page in PAGES for block in blocks_of(page)]
-    for page, block in blocks + [("--help", block) for block in blocks_of_help()]:
+    for page, block in blocks:
         row = next((row for row in left if row[0] == page and block.startswith(row[1])), None)
         if row is None:
             bad.append(f"{page}: nobody runs these commands:\n{block}")

@@ -37,7 +37,8 @@ done
 # a crate with tests is proved twice, since they are checked together with all of it
 while IFS= read -r file; do say "$file has tests, which stand in a crate of tests alone"; done \
     < <(grep -rl --include='*.rt' '#\[test\]' crates/*/src | grep -v '^crates/test_')
-for page in THEOREM ARCHITECTURE FORMATS OPERATING RULES PROOFS BRACKET DECISIONS RECIPES READING FROM_A_NODE; do
+for page in CHANGELOG.md SECURITY.md VERSION; do [ -s "$page" ] || say "$page is missing"; done
+for page in COMMANDS THEOREM ARCHITECTURE FORMATS OPERATING RULES PROOFS BRACKET DECISIONS RECIPES READING FROM_A_NODE; do
     [ -s "docs/$page.md" ] || say "docs/$page.md is missing"
     grep -q "docs/$page.md" README.md || say "the README does not lead to docs/$page.md"
 done
@@ -52,6 +53,7 @@ shown="$(sed -n '/^```rust$/,/^```$/{/^```/d;p}' docs/THEOREM.md)"
 # pages and tables that scripts make are what they would make now
 python3 checks/tables.py --check || bad=1
 python3 checks/schemas.py --check || bad=1
+python3 checks/commands.py --check || bad=1
 python3 checks/reading.py --check || bad=1
 python3 checks/map.py --check || bad=1
 python3 checks/counts.py || bad=1

@@ -1,5 +1,5 @@
 #!/usr/bin/env python3
-"""Calls every recipe wrongly, in each way that its words allow, and asks that none ends with 0 or a traceback.
+"""Calls every recipe and stakeplay.sh wrongly, in each way that words allow, and asks that none ends with 0 or a traceback.
 
   checks/wrong_calls.py       prints how many calls there were, and those that end so
   checks/wrong_calls.py -v    prints each call, how it ended and what it said
@@ -7,7 +7,8 @@
 Wrong are words (too few, too many, unknown), addresses (mistyped, cut, of another form or kind, such as no line names),
 heights and counts, and files: those that are missing, folders, empty, binary, compressed, cut, of another format or of
 another run. Each is put in the place of one word of a call that is right, which is made too and has to end with 0.
-A recipe says why in one line, and ends with 2; where 1 means that something does not add up, 1 is taken as well.
+A recipe says why in one line, and ends with 2; where 1 means that something does not add up, 1 is taken as well. The script
+ends with 1, in the program's line and one that says why.
 Its status is 0 where all is so. Needs Python alone, and no program.
 """
 from __future__ import annotations
@@ -64,6 +65,7 @@ class Call:
     is_right: bool = False
     may_be_1: bool = False      # 1 is a status that says so, too
     many_lines: bool = False    # notes may stand before the line
+    status: int = 2             # by which it is to end
 
 
 # ---- files
@@ -148,7 +150,7 @@ class Calls:
         """Every call, those that are right among them."""
         for part in (self.tax_sheet, self.reconcile, self.validator_sheet, self.audit, self.refusals, self.statements,
                      self.proposal, self.stores, self.exports, self.blocks, self.fetching, self.long_run, self.watching,
-                     self.package, self.page, self.operator_day, self.tax_year):
+                     self.package, self.page, self.operator_day, self.tax_year, self.script):
             yield from part()
 
     def tax_sheet(self) -> Iterator[Call]:
@@ -348,8 +350,10 @@ class Calls:
         yield from in_place([*words, "--only", ""], 4, WRONG_ACCOUNTS)
         yield from in_place([*words, "--exponent", ""], 4, WRONG_EXPONENTS)
         yield from in_place([*words, "--denom", ""], 4, ["", "u", "no denom", "uosmo"])
-        for flag, texts in (("--window", WRONG_COUNTS), ("--min-signed", WRONG_PARTS), ("--most-bytes", WRONG_COUNTS)):
+        for flag, texts in (("--window", WRONG_COUNTS), ("--min-signed", WRONG_PARTS), ("--most-bytes", WRONG_COUNTS),
+                            ("--jobs", WRONG_COUNTS)):
             yield from in_place([*words, flag, ""], 4, texts)
+        yield Call([*words, "--jobs", "3"], is_right=True)
 
     def operator_day(self) -> Iterator[Call]:
         words = ["operator_day.py", OPERATOR, str(self.out), str(self.inp)]
@@ -381,6 +385,25 @@ class Calls:
         bad = [name for name in bad_files(self.room, prices, [self.out]) if "/marked-" not in name]  # spreadsheets mark it so
         yield from in_place([*words, "--prices", ""], 9, bad)
 
+    def script(self) -> Iterator[Call]:
+        """Commands of stakeplay.sh with wrong words and flags, which it tells without a program (checks/commands.sh has more)."""
+        right = {"replay": "", "resume": "--store x", "query": "supply --store x", "tally": "--store x",
+                 "statement": f"{USER} {OPERATOR}", "check": "", "gen": "7 5", "trial": "7 5"}
+        for name, words in right.items():
+            call = ["stakeplay.sh", name, *words.split()]
+            flags = "--no-such-flag", "-x", "--store", "--store=", "--height", "--height=x", "--every", "--every=0", "--bech32=1"
+            rows = [[*call, "more"], [*call, "--bech32", "--bech32"], ["stakeplay.sh", name.upper(), *call[2:]],
+                    *([*call, flag] for flag in flags), *([call[0], flag, *call[1:]] for flag in ("--nothing", "-s"))]
+            yield from (Call(row, status=1, many_lines=True) for row in rows)
+        for words in ([], ["a", "b"], ["--remove"], ["--remove", "no/such"], ["--nothing"], [""], ["-x"], ["--remove", ""]):
+            yield Call(["install.sh", *words])
+        for text in WRONG_COUNTS:
+            yield from (Call(["stakeplay.sh", name, "7", text], status=1, many_lines=True) for name in ("gen", "trial"))
+        for text in WRONG_HEIGHTS:
+            yield Call(["stakeplay.sh", "query", "supply", "--store", "x", "--height", text], status=1, many_lines=True)
+        for text in ("", "Supply", "delegation", "supplies", "account", "supply pool", "account x y"):
+            yield Call(["stakeplay.sh", "query", *text.split(), "--store", "x"], status=1, many_lines=True)
+
 
 # ---- running them
 
@@ -397,7 +420,8 @@ def started(call: Call, room: str) -> Ending:
     if words[0] == "stakeplay":
         command = [sys.executable, "-m", *words]
     else:
-        command = ["bash" if words[0].endswith(".sh") else sys.executable, str(RECIPES / words[0]), *words[1:]]
+        path = ROOT / words[0] if words[0] in ("stakeplay.sh", "install.sh") else RECIPES / words[0]
+        command = ["bash" if words[0].endswith(".sh") else sys.executable, str(path), *words[1:]]
     done = subprocess.run(command, input=call.given, capture_output=True, env=around, cwd=room)
     return done.returncode, done.stderr.decode(errors="replace")
 
@@ -478,9 +502,9 @@ def fault_of(call: Call, status: int, err: str) -> tuple[bool, str]:
     lines = err.splitlines()
     if is_silent:
         return True, f"ended with {status}"
-    if status != 2 and not (status == 1 and call.may_be_1):
-        return False, f"ended with {status}, not 2"
-    is_told = status == 1 or (lines if call.many_lines else len(lines) == 1) and bool(lines[-1].strip())
+    if status != call.status and not (status == 1 and call.may_be_1):
+        return False, f"ended with {status}, not {call.status}"
+    is_told = status == 1 and call.may_be_1 or (lines if call.many_lines else len(lines) == 1) and bool(lines[-1].strip())
     return False, "" if is_told else f"said {len(lines)} lines"
 
 

@@ -1,12 +1,13 @@
-# Sourced by stakeplay.sh, release/make.sh and checks/release.sh. What is released is told by the lines of release/RELEASE, a
-# word and its value each: made (the day), kit, sources (a sum of the sources, below), program (the sum of the program),
-# packed (the sum of release/stakeplay.gz) and crates (those that the program stands on).
+# Sourced by stakeplay.sh, install.sh, release/make.sh and checks. What is released is told by the lines of
+# release/RELEASE, a word and its value each: made (the day), kit, sources (a sum of the sources, below), program (the
+# sum of the program), linked (`static`, or the newest version of the C library that it asks for), packed (the sum of
+# release/stakeplay.gz) and crates (those that the program stands on).
 
 # The value of a word of the release of a repository.
 release_word() { sed -n "s/^$2 //p" "$1/release/RELEASE" 2>/dev/null; }
 
-# The sum of what a program is compiled from: the sources (.rt) of the crates, in the order of their names. Contracts stand in
-# them; definitions and proofs don't, since they leave no trace in a program.
+# The sum of what a program is compiled from: the sources (.rt) of the crates, in the order of their names. Contracts
+# stand in them; definitions and proofs don't, since they leave no trace in a program.
 sources_sum() {
     (
         cd "$1/crates" || exit 1
@@ -23,10 +24,55 @@ is_of_release() {
     [ -n "$crates" ] && [ "$(sources_sum "$1" "$crates")" = "$(release_word "$1" sources)" ]
 }
 
-# Prints the path of the released program, unpacked, where it can run here and the sources are those of the release.
-released_program() { is_of_release "$1" && unpacked_program "$1"; }
+# Keeps in `program` the path of the released program, unpacked, where it can run here and the sources are those of the
+# release. That they are is noted in a file, so that they are read again only where one of them, or the release, was
+# changed since: its status has a time that no copying sets back.
+find_released() {
+    local word value sum='' crates='' note folders
+    [ "$OSTYPE $HOSTTYPE" = 'linux-gnu x86_64' ] || [ "$(uname -sm)" = 'Linux x86_64' ] || return 1
+    while read -r word value; do
+        case "$word" in program) sum="$value" ;; crates) crates="$value" ;; esac
+    done <"$1/release/RELEASE" 2>/dev/null
+    [ -n "$sum" ] && [ -n "$crates" ] || return 1
+    folders=("$1/release/RELEASE")
+    for word in $crates; do folders+=("$1/crates/$word/src"); done
+    cache_of "$1"
+    for note in "$1/target/release/${sum:0:16}.is-of-these-sources" "$cache/${sum:0:16}.is-of-these-sources"; do
+        if [ -e "$note" ] && [ -z "$(find "${folders[@]}" -newercm "$note" -print -quit 2>&1)" ]; then
+            read -r program <"$note"
+            [ -x "$program" ] && return 0
+        fi
+    done
+    note_release "$1" "$sum"
+}
 
-# The same, whatever the sources are.
+# Reads the sources, unpacks the program where they are those of the release, and notes both.
+note_release() {
+    local folder new
+    for folder in "$1/target/release" "$cache"; do
+        mkdir -p "$folder" 2>/dev/null && new="$(mktemp "$folder/new.XXXXXX" 2>/dev/null)" && break
+        new=''
+    done
+    if is_of_release "$1" && program="$(unpacked_program "$1")"; then
+        if [ -n "$new" ]; then
+            # the note is as old as the time before the sources were read
+            cat >"$new.text" <<<"$program" && touch -r "$new" "$new.text" && mv "$new.text" "$folder/${2:0:16}.is-of-these-sources"
+            rm -f "$new"
+        fi
+        return 0
+    fi
+    rm -f "$new"
+    return 1
+}
+
+# Keeps in `cache` the folder of what is kept for a repository that may not be written.
+cache_of() {
+    local place="$1"
+    case "$place" in /*) ;; *) place="$PWD/$place" ;; esac
+    cache="${XDG_CACHE_HOME:-${HOME:-/nowhere}/.cache}/stakeplay/${place//\//%}"
+}
+
+# Prints the path of the released program, unpacked, whatever the sources are.
 unpacked_program() {
     local program folder sum
     [ "$(uname -sm)" = "Linux x86_64" ] || return 1
@@ -51,4 +97,11 @@ unpack() {
         rm -f "$new"
         return 1
     fi
+}
+
+# Links what the gate compiled without a C library that it would have to find where it runs, to a path: so any Linux runs it.
+link_static() {
+    local kit object="$1/crates/stakeplay/out/stakeplay.o"
+    [ -f "$object" ] && kit="$(dirname "$(rt doc)")" || return 1
+    "$kit/toolchain/bin/clang" -static -fuse-ld=lld -o "$2" "$object" "$kit/c/libos_c.a" "$kit/c/liblibc_c.a" 2>/dev/null
 }

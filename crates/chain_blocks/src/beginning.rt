@@ -67,7 +67,7 @@ fn allocate<E: Extra, L: Ledger>(
     modules
         .hooks
         .first
-        .hooks
+        .first
         .begin_block(alloc, &mut modules.ground, &modules.stakes, votes, steps)
 }
 

@@ -78,7 +78,7 @@ window_some m s = (ground_kept m s.state s.stands.keeps s.stands.sound).params.s
 pub window_on : {E : Type 0} (old new : Modules E) → new.ground ≡ old.ground → new.stakes ≡ old.stakes → new.hooks.first ≡ old.hooks.first → window.behind new.hooks.second ≡ window.behind old.hooks.second → MessagesGoOn old new
 window_on old new ground stakes shared signings =
     at_moment old new (all_on old new (ground_stays old new ground) (ap (λ s. book.behind s.staking) stakes) (ap (λ s. entries.behind s.unbondings) stakes) (ap (λ s. entries.behind s.redelegations) stakes)
-    (λ i. (distr.behind (shared i).hooks, signings i)))
+    (λ i. (distr.behind (shared i).first, signings i)))
 
 module _ {E : Type 0} (authority : List ℕ) (p : Params) (old : Modules E) (k2 : KeptState) where
   pub update_stops : (why : Refusal) → may_update authority old.ground.ctx.params p ≡ Err why → (w : State) → StandsWhole (kept_of old) w → MessageEnds (update_params authority p w) k2 (Err (stop.Refused why))

@@ -148,7 +148,7 @@ fn pending_at<E: Extra, L: Ledger>(
         modules
             .hooks
             .first
-            .hooks
+            .first
             .pending(alloc, &v, delegator, shares, height, steps),
     )?;
     Ok(Pending {

@@ -1,6 +1,6 @@
 //! What words ask for: a command, in the way that the words before it say.
 
-ghost use Rattle.std.specs.Prelude.{◌≡◌, ◌<◌, true};
+ghost use Rattle.std.specs.Prelude.{◌≡◌, ◌<◌, true, false};
 ghost use Rattle.run_app.specs.Commands.{WayEnds, WayUnkept, kept_way, past_way, way_of};
 ghost use Rattle.run_app.specs.Counts.{Moved, ReadMoved, is_keep_fault, is_write_fault};
 ghost use Rattle.run_app.specs.Modes.{HasFewBlocks};

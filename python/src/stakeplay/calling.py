@@ -146,10 +146,10 @@ def judged(text: str) -> str:
 
 # ---- files
 
-def opened(name: str) -> BinaryIO:
-    """The file of that name; standard input for `-`."""
+def opened(name: str, buffer: int = -1) -> BinaryIO:
+    """The file of that name, read by so many bytes at once; standard input for `-`."""
     try:
-        return sys.stdin.buffer if name == "-" else open(name, "rb")
+        return sys.stdin.buffer if name == "-" else open(name, "rb", buffer)
     except (OSError, ValueError) as fault:
         stop(f"{name}: {getattr(fault, 'strerror', fault)}")
 

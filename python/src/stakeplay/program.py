@@ -45,7 +45,8 @@ def _bytes_of(line: Line) -> bytes:
 def output(words: Iterable[str], lines: Iterable[Line] = ()) -> Iterator[bytes]:
     """The lines that the program writes, called with these words; a run that does not end with 0 raises `Ended`."""
     command = [program(), *words]
-    with subprocess.Popen(command, stdin=subprocess.PIPE, stdout=subprocess.PIPE, stderr=subprocess.PIPE) as process:
+    alone = dict(os.environ, STAKEPLAY_PLAIN="1")   # the script becomes the program, which says one line
+    with subprocess.Popen(command, stdin=subprocess.PIPE, stdout=subprocess.PIPE, stderr=subprocess.PIPE, env=alone) as process:
         assert process.stdin and process.stdout and process.stderr
         faults: list[BaseException] = []
         told: list[bytes] = []

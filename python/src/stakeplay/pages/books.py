@@ -7,6 +7,7 @@ from typing import Any, Generic, TypeVar
 from stakeplay.addresses import HEXADECIMAL, from_bech32
 from stakeplay.lines.reading import ONE, Stakes
 from stakeplay.pages.series import Series, Steps
+from stakeplay.pages.shares import Summed
 from stakeplay.sheets.moves import Move, Moves
 
 Json = dict[str, Any]
@@ -76,16 +77,14 @@ class Validator:
         self.signing: Json = {}
         self.report_place = self.signing_place = 0
 
-    def take_shares(self, step: int, values: tuple[int, ...], blocks: list[tuple[int, int]], place: int) -> None:
+    def take_shares(self, step: int, values: Summed, blocks: list[tuple[int, int]], place: int) -> None:
         """Shares of the fees of some blocks of a step: of each block its height and the line of its first share are told,
         of which this is the one at `place`."""
-        least, greatest = min(values), max(values)
-        points = []
-        for value, at in ((least, values.index(least)), (greatest, values.index(greatest)), (values[-1], len(values) - 1)):
-            points.append((value, blocks[at][0], blocks[at][1] + place))
+        points = [(value, blocks[at][0], blocks[at][1] + place) for value, at in (
+            (values.least, values.least_at), (values.greatest, values.greatest_at), (values.last, -1))]
         self.given.merge(step, *points)
-        self.units += sum(values)
-        self.shares += len(values)
+        self.units += values.total
+        self.shares += len(blocks)
         self.share_line = points[2][2]
 
     def start(self, delegator: str, stake: int) -> None:

@@ -106,7 +106,7 @@ class Document:
         totals["allocated"] = self.allocated()
         kinds = {"fees": "transfer", "rewards": "paid", "commission": "commission", "burned": "burn", "allocated": "allocated"}
         rows = []
-        for denom in sorted({*first, *supply, *(d for t in totals.values() for d in t.coins)}):
+        for denom in sorted({*first, *supply, *run.pooled_denoms, *(d for t in totals.values() for d in t.coins)}):
             row: Json = {"denom": denom}
             row["first"] = self.figure(str(first.get(denom, 0)), denom, first_place, run.first_height - 1)
             row["supply"] = self.figure(str(supply.get(denom, 0)), denom, place, run.height)

@@ -8,7 +8,7 @@ from __future__ import annotations
 import json
 import re
 from collections import deque
-from datetime import datetime, timezone
+from datetime import datetime
 from typing import Any, BinaryIO
 
 from stakeplay.lines.reading import ONE, is_genesis, opened, plain_time, stop
@@ -16,6 +16,7 @@ from stakeplay.pages.books import Ends, Validator
 
 Json = dict[str, Any]
 FILES = 1 << 40     # a place is the number of a file times this, and the number of a line; the output is file 0
+EPOCH = datetime(1970, 1, 1)
 VOTE = re.compile(rb'"cons":"([^"]*)","power":\d+,"signed":(true|false)')
 
 
@@ -27,8 +28,8 @@ def decimal(text: str) -> int:
 
 def nanoseconds(moment: str) -> int:
     """A moment as nanoseconds since 1970."""
-    seconds = int(datetime.fromisoformat(moment[:19]).replace(tzinfo=timezone.utc).timestamp())
-    return seconds * 10 ** 9 + int(moment[20:-1].ljust(9, "0") if len(moment) > 20 else 0)
+    since = datetime.fromisoformat(moment[:19]) - EPOCH
+    return (since.days * 86400 + since.seconds) * 10 ** 9 + int(moment[20:-1].ljust(9, "0") if len(moment) > 20 else 0)
 
 
 class Given:
@@ -45,7 +46,7 @@ class Given:
 
     def open(self, number: int, name: str) -> None:
         """Opens a file, and reads it whole if it has statements."""
-        file = opened(name)
+        file = opened(name, 1 << 18)
         first = self.parsed(name, file.readline())
         if first.get("kind") == "statement":
             for place, line in enumerate([first, *(self.parsed(name, text) for text in file)], 1):
@@ -145,6 +146,7 @@ class Votes:
         self.size, self.allowed = FILES, 0      # without parameters all votes count
         self.moved: dict[Window, None] = {}     # whose misses are others than before
         self.text = b""                         # the votes of the block before, as if all were signed
+        self.beside = b""                       # what the input's block has beside them, if they could be told from it
         self.counting: list[Window] = []        # whose votes counted in the block before
         self.due: dict[int, list[Window]] = {}  # which windows may lose a miss at a block
         self.now = 0                            # blocks that were read
@@ -169,6 +171,7 @@ class Votes:
         start = text.find(b'"votes":[')
         section = text[start:text.find(b"]", start)]
         is_plain = start >= 0 and text.count(b'"votes":[') == 1 and b"\\" not in text
+        self.beside = text[:start] + text[start + len(section):] if is_plain else text
         missed = b"false" in section
         signed = section.replace(b"false", b"true") if missed else section
         if is_plain and signed == self.text:

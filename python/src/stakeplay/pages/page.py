@@ -41,6 +41,8 @@ def arguments() -> argparse.Namespace:
     parser.add_argument("--window", metavar="N", type=a_count, help="the votes of the window, where no genesis tells it")
     parser.add_argument("--min-signed", metavar="PART", type=a_part, help="the part of them that is to be signed, as 0.05")
     parser.add_argument("--most-bytes", metavar="N", type=a_count, default=4_900_000, help="how long the file may be")
+    parser.add_argument("--jobs", metavar="N", type=a_count, help="read by so many processes; else by as many as there are "
+                        "processors, but at most 4, where the file is long")
     return parser.words()
 
 
@@ -59,7 +61,7 @@ def main() -> int:
     run = Run(words.run, Given(words.inputs), words.only, words.denom, (256, 256))
     if words.window:
         run.votes.parameters({"signed_blocks_window": words.window, "min_signed_per_window": words.min_signed or "0.5"})
-    run.read()
+    run.read(words.jobs)
     if not run.moments:
         stop("there is no block in it, so there is nothing to draw")
     named(run)

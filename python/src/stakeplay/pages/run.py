@@ -11,36 +11,22 @@ import json
 import re
 from array import array
 from bisect import bisect_right
-from datetime import datetime, timezone
-from typing import Any, BinaryIO, Iterator
+from typing import Any
 
 from stakeplay.lines import reading
 from stakeplay.lines.reading import BONDED, COLLECTOR, DISTRIBUTION, ONE, PLACES, Order, Stakes
 from stakeplay.lines.reading import is_shaped, opened, raw, stop, units, whole
 from stakeplay.pages.books import Asked, Ends, Totals, Validator
 from stakeplay.pages.given import FILES, Given, Votes, Window, decimal, nanoseconds
+from stakeplay.pages.quiet import Forms, outcomes
 from stakeplay.pages.series import Series, Steps, Sums
+from stakeplay.pages.shares import MIDDLE, Group, Parts, Reader, Told, summed
 
 Json = dict[str, Any]
 TELLING = b"create_validator", b"edit_validator", b"update_params", b"\\"    # messages that do what no fact tells
 SCAN = json.JSONDecoder().scan_once
-HEAD, MIDDLE = b'{"coins":[{"amount":"', b'","denom":"%s"}],"height":%d,"kind":"allocated","validator":"'
-BETWEEN = b'"}\n' + HEAD
-AMOUNTS = re.compile(rb"\d+\.\d{18}(?: \d+\.\d{18})*")
-
-
-
-def chunks(file: BinaryIO) -> Iterator[bytes]:
-    """The bytes of a file in whole lines, but for a last one that is cut."""
-    rest = b""
-    while text := file.read(1 << 22):
-        text = rest + text
-        end = text.rfind(b"\n") + 1
-        rest = text[end:]
-        if end:
-            yield text[:end]
-    if rest:
-        yield rest
+COUNTED = "active", "jailed", "all"     # numbers of validators
+NOTHING = re.compile(rb"(?!)")
 
 
 class Run:
@@ -55,7 +41,10 @@ class Run:
         # the shares that were read since the last step: whose they are, of each block its height and first line, and values
         self.names, self.share_of = [], []          # type: list[bytes], list[Validator]
         self.share_blocks, self.share_values = [], []   # type: list[tuple[int, int]], list[list[int]]
-        self.guess = 1 << 14                        # how long the shares of a block may be
+        self.reader = Reader()
+        self.text = b""                             # the part of the file that is read
+        self.told: Told = {}                        # what other processes read of it
+        self.group: Group | None = None             # to which the shares belong, where one of them read them
         self.votes = Votes()
         self.cons: dict[str, str] = {}              # of an operator
         self.operators: dict[str, Validator] = {}   # by the consensus address, as the report has them
@@ -65,13 +54,17 @@ class Run:
         self.first_height = self.height = self.lines = 0
         self.is_open = False
         self.middle = b"}"                      # what a share of the block has between its amount and its validator
+        self.forms: Forms | None = None         # of lines, once the denomination is known
+        self.form = NOTHING                     # of quiet lines and of shares, which stand in the block
+        self.of_height = b""                    # what each line of the block has
+        self.pooled_denoms: set[str] = set()
         self.step = 0                           # of the block, among the validators' steps
         self.bonded = 0                         # by how much the bonded tokens changed
         self.burned: dict[str, int] = {}
         self.starts: dict[str, tuple[dict[str, int], int]] = {}     # what stood first: by name, and where it is told
         self.wrong: list[str] = []
         self.counts = [0, 0, 0]                 # by how much these changed: bonded, jailed, all validators
-        self.sums = {name: Totals() for name in ("fees", "allocated", "rewards", "commission", "burned", "pooled")}
+        self.sums = {name: Totals() for name in ("fees", "allocated", "rewards", "commission", "burned")}
         names = ("bonded", "supply", "fees", "allocated", "rewards", "commission", "active", "jailed", "all")
         self.series = {name: Series(self.chain) for name in names}
         self.rate = Sums(self.chain)
@@ -100,20 +93,16 @@ class Run:
 
     # ---- reading
 
-    def read(self) -> "Run":
-        """Reads the whole output."""
-        number = 0
+    def read(self, jobs: int | None = None) -> "Run":
+        """Reads the whole output, by so many processes."""
+        number, parts = 0, Parts(opened(self.name), self.name, jobs)
         try:
-            for text in chunks(opened(self.name)):
-                place, end = 0, len(text)
-                while place < end:
-                    count, stop_at = self.shares_at(text, place, number)
-                    if not count:
-                        count, stop_at = 1, text.find(b"\n", place) + 1 or end
-                        self.take(text[place:stop_at], number + 1)
-                    number, place = number + count, stop_at
+            for text, self.told in parts:
+                number = self.read_part(text, number)
+                if self.moments and self.denom and not parts.looks:
+                    parts.looks = self.denom, (self.steps.most, self.steps.first)
         except Exception:
-            reading.PLACE = number + 1
+            reading.PLACE = self.lines + 1
             raise
         if self.order.part == "nothing":
             stop("nothing was read")
@@ -123,28 +112,57 @@ class Run:
         self.lines = number
         return self
 
+    def read_part(self, text: bytes, number: int) -> int:
+        """Reads whole lines behind so many; how many there are then."""
+        self.text, place, end = text, 0, len(text)
+        while place < end:
+            self.lines, count = number, 0
+            if found := self.form.match(text, place):
+                count, stop_at = self.quiet_at(text, place, found.end()) if found[1] else self.shares_at(text, place, number)
+            if not count:
+                count, stop_at = 1, text.find(b"\n", place) + 1 or end
+                self.take(text[place:stop_at], number + 1)
+            number, place = number + count, stop_at
+        return number
+
+    def quiet_at(self, text: bytes, place: int, end: int) -> tuple[int, int]:
+        """Lines that change nothing of the page: how many there are if they are all of this block, and where they end."""
+        count, passed = text.count(b"\n", place, end), outcomes(text, place, end, self.order.tx)
+        if passed < 0 or text.count(self.of_height, place, end) != count:
+            return 0, place
+        self.order.tx += passed
+        return count, end
+
     # ---- shares of fees: most lines of a run
 
     def shares_at(self, text: bytes, place: int, number: int) -> tuple[int, int]:
         """The shares of the block's fees that stand there, if they are of the page's denomination alone and of validators
-        that were heard of: how many there are, and where they end. They are read together, by what they have in common."""
-        if not text.startswith(HEAD, place) or text.find(self.middle, place, place + 200) < 0:
-            return 0, 0
-        last = text.rfind(self.middle, place, place + self.guess)
-        end = text.find(b"\n", last) + 1
-        words = text[place + len(HEAD):end - 3].replace(self.middle, b" ").replace(BETWEEN, b" ").split(b" ")
-        amounts, names = b" ".join(words[::2]), words[1::2]
-        if not end or text[end - 3:end] != b'"}\n' or len(words) % 2 or not AMOUNTS.fullmatch(amounts):
-            return 0, 0
-        if names != self.names and not self.follow(names):
-            return 0, 0
-        values = list(map(int, amounts.replace(b".", b"").split(b" ")))
+        that were heard of: how many there are, and where they end."""
+        if told := self.told.get(place):
+            group, (_, end, height, total) = told
+            if height == self.height and self.goes_on_with(group):
+                return self.has_shares(len(group.names), total, number), end
+        if self.group:
+            self.flush()
+        shares = self.reader.at(text, place, self.middle)
+        if not shares or shares.names != self.names and not self.follow(shares.names):
+            return 0, place
+        self.share_values.append(shares.values)
+        return self.has_shares(len(shares.names), sum(shares.values), number), shares.end
+
+    def has_shares(self, count: int, total: int, number: int) -> int:
+        """Notes so many shares of the block, behind so many lines."""
         self.share_blocks.append((self.height, number + 1))
-        self.share_values.append(values)
-        self.given_of_block += sum(values)
-        self.given_last = number + len(values)
-        self.guess = max(1 << 14, 2 * (end - place))
-        return len(values), end
+        self.given_of_block += total
+        self.given_last = number + count
+        return count
+
+    def goes_on_with(self, group: Group) -> bool:
+        """Whether shares of a group, which another process read, are taken: all of it or none."""
+        if group is not self.group:
+            group.is_read = group.is_read and self.follow(group.names)
+            self.group = group if group.is_read else None
+        return group.is_read
 
     def follow(self, names: list[bytes]) -> bool:
         """Goes on to shares of other validators than before, if each was heard of."""
@@ -157,9 +175,19 @@ class Run:
     def flush(self) -> None:
         """Hands the shares that were read to their validators."""
         if self.share_blocks:
-            for place, values in enumerate(zip(*self.share_values)):
+            if self.group and len(self.group.found) != len(self.share_blocks):
+                self.part_with(self.group)
+            for place, values in enumerate(self.group.kept if self.group else map(summed, zip(*self.share_values))):
                 self.share_of[place].take_shares(self.step, values, self.share_blocks, place)
             self.share_blocks, self.share_values = [], []
+        self.group = None
+
+    def part_with(self, group: Group) -> None:
+        """Reads anew those of a group that stood before a line which parts it."""
+        self.group, group.is_read = None, False
+        for place, _, height, _ in group.found[:len(self.share_blocks)]:
+            shares = self.reader.at(self.text, place, MIDDLE % ((self.denom or "").encode(), height))
+            self.share_values.append(shares.values if shares else [])
 
     def take(self, text: bytes, number: int) -> None:
         """Judges a line, and tells it to whom it concerns."""
@@ -245,15 +273,25 @@ class Run:
             self.flush()
         self.step, self.is_open = self.steps.of(self.height), True
         self.middle = MIDDLE % ((self.denom or "").encode(), self.height)
+        self.of_height = b'"height":%d,"kind":"' % self.height
         self.given_of_block, self.given_first, self.given_last = 0, place, place
         if self.given.is_there:
             if not self.given.at(self.height) or not self.given.is_of(line["time"]):
                 stop(f"{', '.join(self.given.names)}: there is no block {self.height}, so this is not that output's input")
             self.votes.take(self.given)
+        self.begin_form()
+
+    def begin_form(self) -> None:
+        """What lines may look like that are read by their form, in this block."""
+        if self.denom and not self.forms:
+            self.forms = Forms(self.denom)
+        if self.forms:
+            asks = bool(self.addresses)
+            self.form = self.forms.shares if asks else self.forms.but_outcomes if self.tells_more() else self.forms.all
 
     def close(self) -> None:
         """A block ends: what it changed goes into the series."""
-        self.is_open, self.middle = False, b"}"
+        self.is_open, self.middle, self.form = False, b"}", NOTHING
         height = self.height
         step, place = self.chain.of(height), self.given_last
         if self.given_of_block:
@@ -261,14 +299,15 @@ class Run:
             self.changed["allocated"] = place
         if self.bond == self.denom or self.bond is None:
             self.rate.add(step, self.given_of_block, (self.given_first, place), height, self.bonded)
-        values = {"bonded": self.bonded, "supply": -self.burned.get(self.bond or "", 0)}
-        values |= dict(zip(("active", "jailed", "all"), self.counts))
         for name, told in self.changed.items():
-            if name in values:
-                supply = -self.burned.get(self.bond or "", 0)
-                self.series[name].add(step, values[name], height, (told, supply) if name == "bonded" else told)
-            elif name in self.sums:
+            if name in self.sums:
                 self.series[name].add(step, self.sums[name].coins.get(self.denom or "", 0), height, told)
+            elif name in COUNTED:
+                self.series[name].add(step, self.counts[COUNTED.index(name)], height, told)
+            else:
+                supply = -self.burned.get(self.bond or "", 0)
+                value, told = (self.bonded, (told, supply)) if name == "bonded" else (supply, told)
+                self.series[name].add(step, value, height, told)
         self.changed.clear()
         self.close_stakes()
         self.close_votes()
@@ -350,6 +389,7 @@ class Run:
             if self.denom is None and coins:
                 self.denom = self.bond if self.bond in coins else next(iter(coins))
                 self.middle = MIDDLE % (self.denom.encode(), self.height)
+                self.begin_form()
             if self.denom in coins:
                 self.series["fees"].add(self.chain.of(self.height), coins[self.denom], self.height, place)
 
@@ -373,13 +413,13 @@ class Run:
             validator.others.add(others, place, self.height)
         if self.denom in coins:
             self.flush()
-            validator.take_shares(self.step, (coins[self.denom],), [(self.height, place)], 0)
+            validator.take_shares(self.step, summed((coins[self.denom],)), [(self.height, place)], 0)
             self.given_of_block += coins[self.denom]
             self.given_last = place
 
     def pooled(self, line: Json, place: int) -> None:
         """Something joins the community pool."""
-        self.sums["pooled"].add(units(line["coins"]), place, self.height)
+        self.pooled_denoms |= units(line["coins"]).keys()
 
     def period(self, line: Json, place: int) -> None:
         """A period ends; the first one of a validator is that of its creation."""
@@ -511,13 +551,15 @@ class Run:
         """The parameters are replaced; which ones stands in the input alone."""
         self.marks.add((self.height, place, "params", f"by {line['authority']}"))
 
+    def tells_more(self) -> bool:
+        """Whether the block of the input may have messages that do what no fact tells."""
+        if self.is_telling is None:
+            self.is_telling = self.given.is_there and any(word in self.votes.beside for word in TELLING)
+        return self.is_telling
+
     def accepted(self, line: Json, place: int) -> None:
         """A transaction passed: what its messages do that no fact tells."""
-        if not self.given.is_there:
-            return
-        if self.is_telling is None:
-            self.is_telling = any(word in self.given.text for word in TELLING)
-        if not self.is_telling:
+        if not self.tells_more():
             return
         for message in self.given.block()["txs"][line["tx"]]["msgs"]:
             kind = message["kind"]
