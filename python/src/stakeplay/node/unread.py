@@ -34,6 +34,7 @@ FIRST = re.compile(rb'\{"type":"(?:commission|rewards)"')
 SHARES = re.compile(rb'(?:\{"type":"(?:commission|rewards)","attributes":\[\{"key":"amount","value":"[0-9A-Za-z./,_-]*",'
                     rb'"index":true\},\{"key":"validator","value":"[0-9a-z]*","index":true\}\]\},)+')
 EVENT = b'{"type":%s},' % ITEM
+KIND, AMOUNT, DIGITS = b'{"type":"', b'"key":"amount","value":"', b"0123456789."
 
 
 class Unread:
@@ -133,21 +134,40 @@ def are_tails(pieces: list[bytes]) -> bool:
             and text.translate(None, IN_TEXTS) + b"\n" == b',"":"::","":""\n' * count)
 
 
-def read_results(path: str, prefix: Prefix) -> Value:
-    """What CometBFT answered of the results of a block."""
-    text = content(path)
-    first = FIRST.search(text)
-    found = SHARES.match(text, first.start()) if first else None
-    if found:
-        raw = parsed(text[:found.start()] + EVENT + text[found.end():])
-        result = inner(raw, ["result"])
-        events = result.get("begin_block_events")
-        at = next((n for n, event in enumerate(events) if event == {"type": MARK}), -1) if isinstance(events, list) else -1
-        if at >= 0:
-            del events[at]
-            result["begin_block_events"] = Shortened(events, at, found[0].count(b'{"type":"'))
-            return answered(Value(raw, prefix, os.path.basename(path)))
-    return answered(read_document(path, prefix))
+class Shares:
+    """What distribution tells of each validator at the beginning of a block: mostly the same as in the block before, but for
+    the amounts."""
+
+    def __init__(self) -> None:
+        self.parts: list[bytes] = []    # of the block before, between its amounts
+
+    def read(self, path: str, prefix: Prefix) -> Value:
+        """What CometBFT answered of the results of a block, in which these events are taken out."""
+        text = content(path)
+        first = FIRST.search(text)
+        end = self.end(text, first.start()) if first else 0
+        if first and end:
+            raw = parsed(text[:first.start()] + EVENT + text[end:])
+            result = inner(raw, ["result"])
+            events = result.get("begin_block_events")
+            if isinstance(events, list) and {"type": MARK} in events:
+                at = events.index({"type": MARK})
+                del events[at]
+                result["begin_block_events"] = Shortened(events, at, text.count(KIND, first.start(), end))
+                return answered(Value(raw, prefix, os.path.basename(path)))
+        return answered(read_document(path, prefix))
+
+    def end(self, text: bytes, start: int) -> int:
+        """Where the events end that begin there; 0 where there are none of the form."""
+        if self.parts:
+            parts = text[start:].split(AMOUNT, len(self.parts) - 1)
+            bare = [part.lstrip(DIGITS) for part in parts]
+            rest = bare.pop()
+            if bare == self.parts[:-1] and rest.startswith(self.parts[-1]):
+                return len(text) - len(rest) + len(self.parts[-1])
+        found = SHARES.match(text, start)
+        self.parts = [part.lstrip(DIGITS) for part in found[0].split(AMOUNT)] if found else []
+        return found.end() if found else 0
 
 
 class Sets:
@@ -195,7 +215,7 @@ class Reading:
 
     def __init__(self) -> None:
         self.commits, self.repeated = Commits("result", "block", "last_commit"), Commits("block", "last_commit")
-        self.sets = Sets()
+        self.sets, self.shares = Sets(), Shares()
 
     def block(self, path: str, prefix: Prefix) -> Value:
         """What CometBFT answered of a block."""
@@ -203,7 +223,7 @@ class Reading:
 
     def results(self, path: str, prefix: Prefix) -> Value:
         """What CometBFT answered of the results of a block."""
-        return read_results(path, prefix)
+        return self.shares.read(path, prefix)
 
     def validators(self, path: str, prefix: Prefix) -> Value:
         """What CometBFT answered of the validators of a height."""
