@@ -59,23 +59,24 @@ run() {
     if [ -n "${STAKEPLAY_PLAIN:-}" ] || ! is_able; then
         exec "$program" "$@"
     fi
-    local name pid='' caught='' status line last='' given told out
-    for name in HUP INT QUIT TERM; do trap "caught=$name; [ -z \"\$pid\" ] || kill -TERM \"\$pid\" 2>/dev/null" "$name"; done
-    exec {given}<&0 {out}>&1
-    exec {told}< <(exec "$program" "$@" <&"$given" 2>&1 >&"$out" {given}<&- {out}>&-)
-    pid=$!
-    exec {given}<&- {out}>&-
-    while :; do
-        wait "$pid" 2>/dev/null
-        status=$?
-        [ -z "$caught" ] || kill -TERM "$pid" 2>/dev/null
-        kill -0 "$pid" 2>/dev/null || break
+    local name pid='' caught='' status line last='' told end="end of $$"
+    for name in HUP INT QUIT TERM; do
+        trap "caught=$name; [ -z \"\$pid\" ] || kill -TERM \"\$pid\" 2>/dev/null" "$name"
     done
-    while IFS= read -r line <&"$told"; do
-        last="$line"
+    # a pipe for its standard error, which this script reads and ends
+    { exec {told}<> <(:); } 2>/dev/null || exec "$program" "$@"
+    "$program" "$@" <&0 2>&"$told" &
+    pid=$!
+    [ -z "$caught" ] || kill -TERM "$pid" 2>/dev/null   # it came before the child was known
+    wait "$pid" 2>/dev/null
+    status=$?
+    while [ -n "$caught" ] && kill -0 "$pid" 2>/dev/null; do wait "$pid" 2>/dev/null; done
+    echo "$end" >&"$told"
+    while IFS= read -r line <&"$told" && [ "$line" != "$end" ]; do
+        last="${line%"$end"}"
+        if [ "$last" != "$line" ]; then printf '%s' "$last" >&2; break; fi
         printf '%s\n' "$line" >&2
     done
-    [ -z "$line" ] || printf '%s' "$line" >&2
     if [ -n "$caught" ]; then
         die_by "$caught"
     elif [ "$status" -gt 128 ]; then
@@ -87,8 +88,7 @@ run() {
     exit "$status"
 }
 
-# Whether the program can be a child here: the shell waits for what it started, and the three files of the script are
-# open.
+# Whether the program can be a child here: the shell is not old, and the three files of the script are open.
 is_able() {
     [ "${BASH_VERSINFO[0]}" -gt 4 ] || [ "${BASH_VERSINFO[0]}${BASH_VERSINFO[1]}" = 44 ] || return 1
     [ -e /dev/fd/0 ] && [ -e /dev/fd/1 ] && [ -e /dev/fd/2 ]

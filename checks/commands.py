@@ -5,7 +5,8 @@
   checks/commands.py --check   ends with 1 where a file is not what the tables say
 
 They are command/table.bash and command/faults.bash, which stakeplay.sh reads, the man page command/stakeplay.1, the
-completions command/completion.bash and command/_stakeplay (zsh), and the page docs/COMMANDS.md.
+completions command/completion.bash and command/_stakeplay (zsh), the page docs/COMMANDS.md, and, from the file VERSION,
+python/src/stakeplay/version.py. CHANGELOG.md has to tell of the version.
 """
 from __future__ import annotations
 
@@ -129,7 +130,7 @@ def array(name: str, values: dict[str, str]) -> str:
 def printed(text: str) -> str:
     """A command of bash that prints a text, in which `stakeplay` is as the script was called."""
     shown = re.sub(r"([\\$`])", r"\\\1", text)
-    shown = re.sub(r"(?<![\w/])stakeplay (?=[a-zC-])", "$called ", shown)
+    shown = re.sub(r"(?<![\w/])stakeplay (?=[a-zA-Z-])", "$called ", shown)
     return f"        cat <<TEXT\n{shown}TEXT\n"
 
 
@@ -388,7 +389,8 @@ def page() -> str:
 def made() -> dict[str, str]:
     """The files, by their names."""
     return {"command/table.bash": table_bash(), "command/faults.bash": faults_bash(), "command/stakeplay.1": man_page(),
-            "command/completion.bash": completion_bash(), "command/_stakeplay": completion_zsh(), "docs/COMMANDS.md": page()}
+            "command/completion.bash": completion_bash(), "command/_stakeplay": completion_zsh(), "docs/COMMANDS.md": page(),
+            "python/src/stakeplay/version.py": f'"""The version: made by checks/commands.py from VERSION."""\n__version__ = "{VERSION}"\n'}
 
 
 def main(words: list[str]) -> int:
@@ -403,6 +405,9 @@ def main(words: list[str]) -> int:
         elif not path.exists() or path.read_text(encoding="utf-8") != text:
             print(f"commands: {name} is not what the tables say; run checks/commands.py")
             status = 1
+    if not re.search(rf"^## {re.escape(VERSION)}\b", (ROOT / "CHANGELOG.md").read_text(encoding="utf-8"), re.M):
+        print(f"commands: CHANGELOG.md does not tell of {VERSION}, which VERSION has")
+        status = 1
     return status
 
 

@@ -35,13 +35,13 @@ done
 
 # a program that imports it
 cat >"$room/uses.py" <<'PYTHON'
-import pathlib, sys
+import importlib.metadata, pathlib, sys
 
 import stakeplay
 
 top, built = pathlib.Path(sys.argv[1]), sys.argv[2]
 assert pathlib.Path(stakeplay.__file__).is_relative_to(sys.prefix), stakeplay.__file__
-assert f'version = "{stakeplay.__version__}"' in (top / "python/pyproject.toml").read_text()
+assert stakeplay.__version__ == (top / "VERSION").read_text().strip() == importlib.metadata.version("stakeplay")
 assert all(hasattr(stakeplay, name) for name in stakeplay.__all__)
 life, given = top / "examples/life.out", top / "examples/life.jsonl"
 with open(life) as file:

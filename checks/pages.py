@@ -7,7 +7,7 @@ EXAMPLES = pathlib.Path("examples")
 DATA = EXAMPLES / "recipes/data"
 PAGES = ["README.md", "CONTRIBUTING.md", "docs/COMMANDS.md", "docs/FORMATS.md", "docs/OPERATING.md", "docs/RECIPES.md", "docs/FROM_A_NODE.md"]
 # the words that begin a command; what else is indented shows code, files or words
-BEGINS = re.compile(r"(bash|cd|curl|head|python3|rt|seq|sqlite3|tail|tar) |\./stakeplay\.sh |\w+=")
+BEGINS = re.compile(r"(bash|cd|curl|head|python3|rt|seq|sqlite3|tail|tar) |\./(stakeplay|install)\.sh |\w+=")
 OPERATOR, USER = "02" + "07" * 19, "5" * 40
 PAYING = "1" * 40  # the operator of the example's history whose validator pays the user twice
 MARK = "@@@"
@@ -58,7 +58,8 @@ def new_room(room):
     """A folder as a reader's, with the script, which runs the program that is tried, and the chain's own program beside it."""
     for folder in (EXAMPLES, "python"):
         shutil.copytree(folder, room / folder, ignore=shutil.ignore_patterns("__pycache__"))
-    bodies = {"stakeplay.sh": f'STAKEPLAY="{PROGRAM}" exec bash "{SCRIPT}" "$@"', "simd": 'cp "examples/recipes/data/export_$3.json" "$5"'}
+    bodies = {"stakeplay.sh": f'STAKEPLAY="{PROGRAM}" exec bash "{SCRIPT}" "$@"',
+              "install.sh": f'STAKEPLAY="{PROGRAM}" exec bash "{SCRIPT.with_name("install.sh")}" "$@"', "simd": 'cp "examples/recipes/data/export_$3.json" "$5"'}
     for name, body in bodies.items():
         (room / name).write_text(f"#!/bin/sh\n{body}\n")
         (room / name).chmod(0o755)
@@ -111,7 +112,7 @@ def spelled_rewards(out, err):
     """What a run that ends at that height, in the other form of addresses, tells of the delegator."""
     front = pathlib.Path("cases/bech32/history.jsonl").read_text().splitlines(True)[:4]
     told = subprocess.run([PROGRAM, "-", "bech32", "replay"], input="".join(front), capture_output=True, text=True).stdout
-    address = re.search(r"past 3 query rewards (\w+)", pathlib.Path("README.md").read_text())[1]
+    address = re.search(r"query rewards (\w+)", pathlib.Path("README.md").read_text())[1]
     return bool(out) and out == "".join(line for line in told.splitlines(True)
                                         if f'"delegator":"{address}","kind":"pending"' in line)
 
@@ -124,11 +125,15 @@ BALLOTS = '{"kind":"ballot","voter":"' + USER + '","option":"yes"}'
 # the page; how the block begins; what comes before it; what a reader puts in; for each command what it is to write, or the
 # status that it ends with and what it is to write; None in place of all of this: it is not run here, since it proves
 ROWS = [
-    ("README.md", "./stakeplay.sh - replay", "", {"bash checks/all.sh": "true", "bash .ci/run": "true"},
+    ("README.md", "./stakeplay.sh replay", "", {"bash checks/all.sh": "true", "bash .ci/run": "true"},
      [writes(WHOLE), writes(""), writes("")]),
+    ("README.md", "python3 examples/recipes/from_export.py", "",
+     {"export.json": "examples/recipes/data/export_1000.json", "head.json": "examples/recipes/data/block_1000.json",
+      "py blocks": "py examples/recipes/data/blocks"}, [says("module-account"), writes("")]),
     ("README.md", "head -n 4", "", {}, [begins, writes(REST), spelled_rewards, finds_right]),
     ("CONTRIBUTING.md", "cd crates/mod_staking", None, {}, None),
     ("docs/FORMATS.md", "sqlite3 FILE", REPLAYED, {"FILE": "chain.db"}, [writes(f"{851:032X}\n")]),
+    ("docs/OPERATING.md", "./install.sh", "", {"/usr/local": "$PWD/there"}, [says("installed in"), says("taken away from")]),
     ("docs/OPERATING.md", "sqlite3 chain.db", REPLAYED, {}, [writes("4\n")]),
     ("docs/OPERATING.md", "python3 -c", REPLAYED, {}, [writes("4\n")]),
     ("docs/OPERATING.md", "H=..", REPLAYED, {"H=..": "H=4", "all.jsonl": "examples/history.jsonl"},

@@ -20,19 +20,23 @@ if ! is_of_release .; then
 fi
 # as on a machine without the kit: a copy without what was built, and nothing on the path but what any Linux has
 room="$(mktemp -d)"
-tar -c stakeplay.sh release examples/history.jsonl crates/*/src | tar -x -C "$room"
+tar -c stakeplay.sh command VERSION release examples/history.jsonl crates/*/src | tar -x -C "$room"
 began="$(date +%s%N)"
 (cd "$room" && env -i PATH=/usr/bin:/bin HOME="$room" bash ./stakeplay.sh - replay <examples/history.jsonl >"$room/out" 2>"$room/err")
 took=$((($(date +%s%N) - began) / 1000000))
 cmp -s "$room/out" examples/history.out || say "from the release, stakeplay.sh writes something else than examples/history.out: $(head -n 1 "$room/err")"
-rm -rf "$room"
 . checks/program.bash
+if [ -n "$here" ] && [ "$(release_word . linked)" = static ]; then
+    here="$room/linked"
+    link_static . "$here" || here=
+fi
 if [ -n "$here" ]; then
     gzip -dc release/stakeplay.gz | cmp -s - "$here" || say "the program that was built here is not the released one, though the sources are the same"
     same=", the same as built here"
 else
     same=
-    echo "release: left out: whether a build gives the released program, since none was built here"
+    echo "release: left out: whether a build gives the released program, since none was built here, or its object is gone"
 fi
+rm -rf "$room"
 [ $bad = 0 ] && echo "release: of $(release_word . made), whole, of these sources$same; the example took $took ms"
 exit $bad

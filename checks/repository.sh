@@ -37,6 +37,7 @@ done
 # a crate with tests is proved twice, since they are checked together with all of it
 while IFS= read -r file; do say "$file has tests, which stand in a crate of tests alone"; done \
     < <(grep -rl --include='*.rt' '#\[test\]' crates/*/src | grep -v '^crates/test_')
+for page in CHANGELOG.md SECURITY.md VERSION; do [ -s "$page" ] || say "$page is missing"; done
 for page in COMMANDS THEOREM ARCHITECTURE FORMATS OPERATING RULES PROOFS BRACKET DECISIONS RECIPES READING FROM_A_NODE; do
     [ -s "docs/$page.md" ] || say "docs/$page.md is missing"
     grep -q "docs/$page.md" README.md || say "the README does not lead to docs/$page.md"

@@ -27,9 +27,17 @@ def told(name: str) -> str:
     return found[1]
 
 
+def version() -> str:
+    """The version, which the package tells too."""
+    found = re.search(r'^__version__ = "(.*)"$', (SOURCES / "stakeplay/version.py").read_text(encoding="utf-8"), re.M)
+    if not found:
+        raise ValueError("src/stakeplay/version.py has no version")
+    return found[1]
+
+
 def metadata() -> str:
     """What an installer has to know of the package."""
-    head = (f"Metadata-Version: 2.1\nName: {told('name')}\nVersion: {told('version')}\nSummary: {told('description')}\n"
+    head = (f"Metadata-Version: 2.1\nName: {told('name')}\nVersion: {version()}\nSummary: {told('description')}\n"
             f"Requires-Python: {told('requires-python')}\nDescription-Content-Type: text/markdown\n\n")
     return head + (HERE / told("readme")).read_text(encoding="utf-8")
 
@@ -48,7 +56,7 @@ def sources() -> dict[str, bytes]:
 def beside() -> dict[str, bytes]:
     """The files that say what the package is."""
     texts = {"METADATA": metadata(), "WHEEL": WHEEL, "entry_points.txt": entry_points()}
-    return {f"{told('name')}-{told('version')}.dist-info/{name}": text.encode() for name, text in texts.items()}
+    return {f"{told('name')}-{version()}.dist-info/{name}": text.encode() for name, text in texts.items()}
 
 
 def record(files: dict[str, bytes], own: str) -> bytes:
@@ -62,9 +70,9 @@ def record(files: dict[str, bytes], own: str) -> bytes:
 
 def write_wheel(folder: str, files: dict[str, bytes]) -> str:
     """Writes a wheel of these files; its name."""
-    name = f"{told('name')}-{told('version')}-py3-none-any.whl"
+    name = f"{told('name')}-{version()}-py3-none-any.whl"
     files = files | beside()
-    own = f"{told('name')}-{told('version')}.dist-info/RECORD"
+    own = f"{told('name')}-{version()}.dist-info/RECORD"
     files[own] = record(files, own)
     with zipfile.ZipFile(pathlib.Path(folder, name), "w", zipfile.ZIP_DEFLATED) as archive:
         for path, data in files.items():
@@ -86,7 +94,7 @@ def build_editable(wheel_directory: str, config_settings: object = None, metadat
 
 def build_sdist(sdist_directory: str, config_settings: object = None) -> str:
     """An archive of this folder."""
-    base = f"{told('name')}-{told('version')}"
+    base = f"{told('name')}-{version()}"
     files = {name: (HERE / name).read_bytes() for name in ("pyproject.toml", "wheel_of_sources.py", told("readme"))}
     files |= {f"src/{name}": data for name, data in sources().items()} | {"PKG-INFO": metadata().encode()}
     with tarfile.open(pathlib.Path(sdist_directory, base + ".tar.gz"), "w:gz", format=tarfile.PAX_FORMAT) as archive:

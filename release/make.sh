@@ -5,6 +5,8 @@ set -eu
 cd "$(dirname "$0")/.."
 . checks/program.bash
 . release/release.bash
+# neither a program that STAKEPLAY names nor an earlier release: these would be told to be of these sources
+built="$here"
 [ -n "$built" ] || { echo "release: the program is not built, or a source is newer: run .ci/run first" >&2; exit 1; }
 crates="$(python3 - <<'PYTHON'
 lines = [line.split("#")[0] for line in open("crates.txt")]
@@ -18,6 +20,15 @@ while todo:
 print(*sorted(found))
 PYTHON
 )"
+# linked anew without a C library to be found, where that can be done here: what the gate tried is the same object, linked
+# to this machine's library, so the cases are run over it; then run `checks/all.sh` over it too, by the variable STAKEPLAY
+room="$(mktemp -d)"
+trap 'rm -rf "$room"' EXIT
+linked="$(objdump -T "$built" 2>/dev/null | grep -o 'GLIBC_[0-9.]*' | sort -uV | tail -n 1)"
+if link_static . "$room/stakeplay"; then
+    STAKEPLAY="$room/stakeplay" bash checks/cases.sh || { echo "release: linked statically, it does not pass the cases" >&2; exit 1; }
+    built="$room/stakeplay" linked=static
+fi
 # without a name and a time, so that packing twice gives the same bytes
 gzip -9 -n -c "$built" >release/stakeplay.gz
 sum() { sha256sum "$1" | cut -d ' ' -f 1; }
@@ -26,6 +37,7 @@ made $(date -u +%Y-%m-%d)
 kit $(rt version | head -n 1)
 sources $(sources_sum . "$crates")
 program $(sum "$built")
+linked $linked
 packed $(sum release/stakeplay.gz)
 crates $crates
 TEXT

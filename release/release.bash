@@ -1,6 +1,7 @@
-# Sourced by stakeplay.sh, release/make.sh and checks/release.sh. What is released is told by the lines of
+# Sourced by stakeplay.sh, install.sh, release/make.sh and checks. What is released is told by the lines of
 # release/RELEASE, a word and its value each: made (the day), kit, sources (a sum of the sources, below), program (the
-# sum of the program), packed (the sum of release/stakeplay.gz) and crates (those that the program stands on).
+# sum of the program), linked (`static`, or the newest version of the C library that it asks for), packed (the sum of
+# release/stakeplay.gz) and crates (those that the program stands on).
 
 # The value of a word of the release of a repository.
 release_word() { sed -n "s/^$2 //p" "$1/release/RELEASE" 2>/dev/null; }
@@ -96,4 +97,11 @@ unpack() {
         rm -f "$new"
         return 1
     fi
+}
+
+# Links what the gate compiled without a C library that it would have to find where it runs, to a path: so any Linux runs it.
+link_static() {
+    local kit object="$1/crates/stakeplay/out/stakeplay.o"
+    [ -f "$object" ] && kit="$(dirname "$(rt doc)")" || return 1
+    "$kit/toolchain/bin/clang" -static -fuse-ld=lld -o "$2" "$object" "$kit/c/libos_c.a" "$kit/c/liblibc_c.a" 2>/dev/null
 }

@@ -12,13 +12,14 @@ from __future__ import annotations
 import importlib
 from typing import TYPE_CHECKING, Any
 
+from stakeplay.version import __version__ as __version__
+
 if TYPE_CHECKING:
     from stakeplay.calling import Fault as Fault
     from stakeplay.lines.facts import *     # noqa: F403
     from stakeplay.program import Ended as Ended, output as output, query as query, replay as replay, resume as resume
     from stakeplay.tables import Refusal as Refusal, refusals as refusals
 
-__version__ = "0.1.0"
 _FACTS = ("Accepted Account Allocated Block Burn Coin Commission Dec DecCoin Delegation Fact Genesis Jailed Paid Params Pending "
           "Period Pool Pooled Redelegation Refused Removed Signing Slashed Started Status Supply Tombstoned Transfer Unbonding "
           "Unjailed Validator fact_of read").split()
