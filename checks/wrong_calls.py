@@ -150,7 +150,7 @@ class Calls:
         """Every call, those that are right among them."""
         for part in (self.tax_sheet, self.reconcile, self.validator_sheet, self.audit, self.refusals, self.statements,
                      self.proposal, self.stores, self.exports, self.blocks, self.fetching, self.long_run, self.watching,
-                     self.package, self.page, self.operator_day, self.tax_year, self.script):
+                     self.package, self.page, self.operator_day, self.tax_year, self.nights, self.script):
             yield from part()
 
     def tax_sheet(self) -> Iterator[Call]:
@@ -384,6 +384,33 @@ class Calls:
         yield from in_place([*words, "--hashes", ""], 9, bad)
         bad = [name for name in bad_files(self.room, prices, [self.out]) if "/marked-" not in name]  # spreadsheets mark it so
         yield from in_place([*words, "--prices", ""], 9, bad)
+
+    def nights(self) -> Iterator[Call]:
+        """Nights that are wrong from the start: no program runs, and no store goes on."""
+        day, rest = self.room / "day.jsonl", self.room / "day.out"
+        day.write_bytes(b"".join(self.inp.read_bytes().splitlines(keepends=True)[4:]))
+        text = self.out.read_bytes()
+        rest.write_bytes(text[text.index(b'{"height":4,"kind":"block"'):])
+        # the report at its end is all that is read of an output before
+        before = [name for name in bad_files(self.room, self.out, [self.inp, self.store]) if "/marked-" not in name]
+        before += [cut_between(self.room, self.out, 40), cut_between(self.room, self.out, 98)]
+        before += [without(self.room, self.out, b'"kind":"pool"'), without(self.room, self.out, b'"kind":"supply"')]
+        words = ["every_night.py", str(self.store), str(day), str(self.room / "night"), "--before", str(self.out)]
+        yield from wrong_words(words[:4], 3, 3)
+        yield Call(words[:5])
+        bad = [name for name in bad_files(self.room, day, [self.out, self.inp, self.store]) if "/cut-" not in name]
+        yield from in_place(words, 2, [name for name in bad if name != str(self.room)])
+        yield from in_place(words, 3, ["", str(self.room), str(self.room / "no/such/night"), str(self.out)])
+        yield from in_place(words, 5, before)
+        for flag, texts in (("--operator", WRONG_OPERATORS), ("--address", WRONG_ACCOUNTS), ("--missed", WRONG_HEIGHTS),
+                            ("--bech32", ["", "Cosmos", "1", "a b", "a" * 21]), ("--next", [str(self.out)]),
+                            ("--export", ["", str(self.room), str(self.room / "missing")])):
+            yield from in_place([*words, flag, ""], 7, texts)
+        for sheet in (["validator_sheet.py", OPERATOR], ["tax_sheet.py", USER], ["audit.py"],
+                      ["tax_sheet.py", USER, "--year", "2024"]):
+            yield Call([*sheet, str(rest), str(day), "--before"])
+            yield from in_place([*sheet, str(rest), str(day), "--before", ""], len(sheet) + 3, before)
+            yield Call([*sheet, str(self.out), str(self.inp), "--before", str(self.out)])
 
     def script(self) -> Iterator[Call]:
         """Commands of stakeplay.sh with wrong words and flags, which it tells without a program (checks/commands.sh has more)."""

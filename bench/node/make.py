@@ -218,8 +218,9 @@ def answers(height: int, validators: int, transactions: int) -> dict[str, Json]:
     if height > 1:
         there[f"validators_{height - 1}"] = answered({
             "block_height": str(height - 1), "count": str(validators), "total": str(validators),
-            "validators": [{"address": cons(n), "voting_power": str(STAKE // 10 ** 6),
+            "validators": [{"address": cons(n),
                             "pub_key": {"type": "tendermint/PubKeyEd25519", "value": in_base64(key(n))},
+                            "voting_power": str(STAKE // 10 ** 6),
                             "proposer_priority": str(height * n % 1000 - 500)} for n in range(validators)]})
     return there
 

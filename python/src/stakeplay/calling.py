@@ -78,6 +78,10 @@ class Parser(argparse.ArgumentParser):
         """The input of a run, which may stand behind its output."""
         self.add_argument("input", metavar="INPUT", nargs="?", help="the lines that the run read, of `replay` or `resume`")
 
+    def before(self) -> None:
+        """An output before that of the run, whose report tells what was known then."""
+        self.add_argument("--before", metavar="FILE", help="the output of the night before, whose report tells what stood then")
+
     def output(self) -> None:
         """The output of a run."""
         self.add_argument("output", metavar="OUTPUT", help="what the program wrote; - for standard input")

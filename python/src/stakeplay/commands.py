@@ -13,6 +13,7 @@ RECIPES = {     # by the name of a recipe: the folder of its module, and what it
     "validator-sheet": ("sheets", "what a validator has, earns and loses, block by block"),
     "page": ("pages", "a page of a run, which a browser opens"),
     "operator-day": ("sheets", "what a validator's operator looks at each day"),
+    "every-night": ("sheets", "goes on from a store with a night's blocks, and says what wants a look"),
     "refusals": ("sheets", "why messages were refused"),
     "reconcile": ("sheets", "whether accounts agree with what moved between two blocks"),
     "audit": ("sheets", "whether an output adds up"),

@@ -11,7 +11,7 @@ from typing import Any, Callable, Iterable, Iterator, NoReturn
 
 from stakeplay import calling
 from stakeplay.addresses import MODULES, bare  # noqa: F401
-from stakeplay.calling import GZIP, opened, stop
+from stakeplay.calling import GZIP, Fault, opened, stop
 
 Json = dict[str, Any]
 ONE = 10 ** 18
@@ -99,26 +99,49 @@ class Order:
 PLACE = 0  # of the line that was read last, from 1; a recipe reads one output
 
 
-def lines(name: str) -> Iterator[Json]:
-    """The lines of a whole output, each as an object."""
-    return lines_of(opened(name))
+def lines(name: str, before: str | None = None) -> Iterator[Json]:
+    """The lines of a whole output, each as an object; in front of them the report at the end of an output before it."""
+    order = Order()
+    if before is not None:
+        yield from report_of(before, order)
+    yield from lines_of(opened(name), order)
 
 
-def lines_of(texts: Iterable[bytes]) -> Iterator[Json]:
+def lines_of(texts: Iterable[bytes], order: Order | None = None) -> Iterator[Json]:
     """The lines of a whole output that was opened."""
     global PLACE
-    order, place = Order(), 0
+    order, place, begun = order or Order(), 0, False
     for place, text in enumerate(texts, 1):
-        PLACE = place
+        PLACE, begun = place, True
         if not text.endswith(b"\n"):
             stop(f"line {place}: the output is cut in this line")
         if place == 1 and text.startswith(GZIP):
             stop("the output is compressed; `gunzip` gives its lines")
         yield judged(text, order, place)
-    if order.part == "nothing":
+    if not begun:
         stop("nothing was read")
     if order.is_cut():
         stop(f"line {place}: the output is cut after this line: the end of its report is missing")
+
+
+def report_of(name: str, order: Order) -> Iterator[Json]:
+    """The report at the end of an output: what was known there."""
+    global PLACE
+    kept: list[bytes] = []
+    place = 0
+    for place, text in enumerate(opened(name), 1):
+        if b'"kind":"supply"' in text:
+            kept = [text]
+        elif kept:
+            kept = [] if b'"height":' in text else [*kept, text]
+    for PLACE, text in enumerate(kept, place - len(kept) + 1):
+        try:
+            line = judged(text, order, PLACE)
+        except Fault as fault:
+            stop(f"{name}: {fault}")
+        yield line
+    if order.part != "end" or not kept[-1].endswith(b"\n"):
+        stop(f"{name}: it does not end with a report")
 
 
 def judged(text: bytes, order: Order, place: int) -> Json:

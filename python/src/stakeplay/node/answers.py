@@ -14,7 +14,8 @@ import re
 from dataclasses import dataclass
 from typing import Any, Callable
 
-from stakeplay.node.data import Prefix, Stop, Value, read_answer, read_document, stop
+from stakeplay.node.data import Prefix, Stop, Value, stop
+from stakeplay.node.unread import Reading
 
 BLOCK_VERSION = "11"
 _HASH = re.compile("[0-9A-F]{64}")
@@ -52,7 +53,7 @@ class Folder:
     """A folder with the answers of a node; blocks are asked for in ascending order."""
 
     def __init__(self, path: str):
-        self.path, self.prefix = path, Prefix()
+        self.path, self.prefix, self.reading = path, Prefix(), Reading()
         self.chain_id = ""      # of the blocks that were read
         self.last_hash = ""     # of the block that was read last
 
@@ -78,7 +79,7 @@ class Folder:
             stop("height", f"block_{gap}.json: is missing, and there are blocks from {first} to {last}")
         return first, last
 
-    def answer(self, kind: str, height: int, read: Callable[[str, Prefix], Value] = read_answer) -> Value:
+    def answer(self, kind: str, height: int, read: Callable[[str, Prefix], Value]) -> Value:
         """An answer that must be there."""
         path = self.name(kind, height)
         try:
@@ -92,7 +93,7 @@ class Folder:
         """The results of a block; nothing where there is no such file."""
         if not os.path.exists(self.name("block_results", height)):
             return None
-        results = self.answer("block_results", height)
+        results = self.answer("block_results", height, self.reading.results)
         if results.has("finalize_block_events"):
             results.fail("is an answer of CometBFT 0.38 or a later one, not of 0.37", "version")
         told = results.member("height")
@@ -115,7 +116,7 @@ class Folder:
 
     def block(self, height: int) -> tuple[Value, bool]:
         """A block, held against the one that was read before it; and whether it is the first of its chain."""
-        answer = self.answer("block", height)
+        answer = self.answer("block", height, self.reading.block)
         block, block_hash = answer.member("block"), answer.at("block_id.hash")
         if not _HASH.fullmatch(block_hash.text()):
             block_hash.fail("is no hash of 64 capital hexadecimal digits")
@@ -140,7 +141,7 @@ class Folder:
             if told.number() != height:
                 told.fail(f"is {told.raw}, not {height}", "validators")
             return answer.member("validators"), answer.member("total")
-        return self.pages("validators", height, read_answer, read)
+        return self.pages("validators", height, self.reading.validators, read)
 
     def transactions(self, height: int) -> Pages:
         """The transactions of the block that was read last, decoded."""
@@ -151,7 +152,7 @@ class Folder:
             if hexadecimal(told) != self.last_hash:
                 told.fail(f"is {hexadecimal(told)}, and in block_{height}.json {self.last_hash}", "hash")
             return answer.member("txs"), answer.at("pagination.total")
-        return self.pages("txs", height, read_document, read)
+        return self.pages("txs", height, self.reading.transactions, read)
 
     def pages(self, kind: str, height: int, load: Callable[[str, Prefix], Value],
               read: Callable[[Value], tuple[Value, Value]]) -> Pages:

@@ -19,7 +19,7 @@ import sys
 from collections import Counter
 from dataclasses import dataclass, field
 from datetime import datetime, timedelta
-from typing import Any, Callable, NoReturn
+from typing import Any, Callable, Iterable, Iterator, NoReturn
 
 from stakeplay.addresses import MODULES, bech32, from_bech32
 from stakeplay.calling import Fault, ended
@@ -228,6 +228,19 @@ def coins_json(coins: Coins, text: Callable[[int], str] = str) -> list[dict[str,
 
 # ---- documents
 
+class Shortened(list[Any]):
+    """A list without some elements that stood one after the other; the places of the others are those of the whole."""
+
+    def __init__(self, rest: list[Any], at: int, left_out: int) -> None:
+        super().__init__(rest)
+        self.at, self.left_out = at, left_out
+
+    def placed(self) -> Iterator[tuple[int, Any]]:
+        """The elements that are left, and their places in the whole list."""
+        for index, raw in enumerate(self):
+            yield index if index < self.at else index + self.left_out, raw
+
+
 class Value:
     """A JSON value, where it stands (`export.json: app_state.staking`), and the prefix of its chain's addresses."""
     __slots__ = "raw", "prefix", "step", "above"
@@ -281,7 +294,11 @@ class Value:
             return []
         if not isinstance(self.raw, list):
             self.fail("is no list")
-        return [Value(raw, self.prefix, place, self) for place, raw in enumerate(self.raw)]
+        return [Value(raw, self.prefix, place, self) for place, raw in self.placed()]
+
+    def placed(self) -> Iterable[tuple[int, Any]]:
+        """The elements of a list and their places; some may be left out."""
+        return self.raw.placed() if isinstance(self.raw, Shortened) else enumerate(self.raw)
 
     def list_at(self, path: str) -> list[Value]:
         """The elements of the list at the end of names that are joined by points."""
@@ -458,14 +475,14 @@ def _refuse_constant(name: str) -> NoReturn:
     raise ValueError(f"{name} is no number of JSON")
 
 
-_DECODER = json.JSONDecoder(parse_constant=_refuse_constant)
+DECODER = json.JSONDecoder(parse_constant=_refuse_constant)
 
 
 def read_document(path: str, prefix: Prefix | None = None) -> Value:
     """The document of a file."""
     try:
         with open(path, "rb") as file:
-            raw = _DECODER.decode(file.read().decode())
+            raw = DECODER.decode(file.read().decode())
     except OSError as fault:
         stop("file", f"{path}: {fault.strerror}")
     except (ValueError, RecursionError) as fault:
@@ -473,9 +490,13 @@ def read_document(path: str, prefix: Prefix | None = None) -> Value:
     return Value(raw, prefix or Prefix(), os.path.basename(path))
 
 
-def read_answer(path: str, prefix: Prefix | None = None) -> Value:
-    """What CometBFT answered, which stands under `result`."""
-    answer = read_document(path, prefix)
+def answered(answer: Value) -> Value:
+    """What CometBFT answered in a document, which stands under `result`."""
     if answer.has("error"):
         answer.fail(f"is an error of the node: {json.dumps(answer.raw['error'])[:200]}", "rpc-error")
     return answer.member("result")
+
+
+def read_answer(path: str, prefix: Prefix | None = None) -> Value:
+    """What CometBFT answered, in a file."""
+    return answered(read_document(path, prefix))

@@ -36,7 +36,7 @@ def picked(events: Value, kinds: frozenset[str]) -> list[Value]:
         found = [raw["type"] in kinds for raw in events.raw]
     except (KeyError, TypeError):   # no list, or one of them is no event
         found = [event.member("type").text() in kinds for event in events.elements()]
-    return [Value(events.raw[place], events.prefix, place, events) for place, is_of in enumerate(found) if is_of]
+    return [Value(raw, events.prefix, place, events) for (place, raw), is_of in zip(events.placed(), found) if is_of]
 
 
 class Flows:

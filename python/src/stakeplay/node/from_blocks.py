@@ -23,7 +23,9 @@ import binascii
 import functools
 import gc
 import hashlib
+import itertools
 import json
+import operator
 import os
 import shutil
 import sys
@@ -39,9 +41,13 @@ from stakeplay.node.flows import Beginning, Json, beginning, end
 from stakeplay.node.left_out import denominations, leave_out_of, tell_left_out
 from stakeplay.node.messages import transactions
 from stakeplay.node.parts import beside_each_other
+from stakeplay.node.unread import Unread
 
 MOST_BYTES = 4_194_304          # of a line
 ABSENT, COMMIT, NIL = 1, 2, 3   # the flags of a signature
+HEAD = b'"block_id_flag":%d,"validator_address":"%s"'    # of a signature
+ABSENT_HEAD = HEAD % (ABSENT, b"")
+FOR_NIL = b'"block_id_flag":%d,' % NIL
 
 compact = json.JSONEncoder(separators=(",", ":")).encode
 
@@ -49,20 +55,46 @@ compact = json.JSONEncoder(separators=(",", ":")).encode
 # ---- votes and evidence
 
 class Voters:
-    """A validator set as votes need it; the one before is kept, since few blocks change it."""
+    """A validator set as votes need it; the one before is kept, since few blocks change much of it."""
 
     def __init__(self) -> None:
+        self.lists: list[Any] = []  # the lists of validators from which it was made
         self.raw: list[Any] = []    # address and power of each, as the node spells them
         self.votes: list[tuple[str, str, str]] = []  # address, the text of a signed vote, and of one that is not
+        self.heads: list[bytes] = []    # how the signature of each begins, for the block
+        self.all_signed = ""            # the list of votes, all of them signed
 
     def follow(self, validators: Pages) -> None:
         """Goes on to the set of the next block."""
+        lists = [one.raw for one in validators.lists]
+        if self.lists and len(lists) == len(self.lists) and all(map(operator.is_, lists, self.lists)):
+            return
         try:
             raw = [(one["address"], one["voting_power"]) for one in validators.raw]
         except (KeyError, TypeError):   # one of them is no validator, which is told as it is read
             raw = []
+        if not all(type(text) is str for pair in raw for text in pair):
+            raw = []
         if not raw or raw != self.raw:
-            self.votes, self.raw = [texts_of_votes(one) for one in validators.elements()], raw
+            known = dict(zip(self.raw, self.votes))
+            made = (known.get(pair) for pair in raw)
+            self.votes = [found or texts_of_votes(one)
+                          for one, found in itertools.zip_longest(validators.elements(), made)]
+            self.raw = raw
+            self.heads = [HEAD % (COMMIT, address.encode()) for address, _, _ in self.votes]
+            self.all_signed = f"[{','.join(signed for _, signed, _ in self.votes)}]"
+        self.lists = lists
+
+    def of_heads(self, heads: list[bytes]) -> str | None:
+        """The list of votes of signatures that begin so, if each is that of its validator, or absent."""
+        if heads == self.heads:
+            return self.all_signed
+        if len(heads) != len(self.heads):
+            return None
+        texts = [signed if head in (wanted, FOR_NIL + wanted[len(FOR_NIL):]) else
+                 absent if head.startswith(ABSENT_HEAD) else ""
+                 for head, wanted, (_, signed, absent) in zip(heads, self.heads, self.votes)]
+        return f"[{','.join(texts)}]" if all(texts) else None
 
 
 def texts_of_votes(validator: Value) -> tuple[str, str, str]:
@@ -76,6 +108,10 @@ def votes(answers: Answers, voters: Voters) -> str:
     """The list of votes for the block before: signature by signature, with the validators of its height."""
     voters.follow(answers.validators)
     signatures = answers.block.at("last_commit.signatures")
+    if isinstance(signatures.raw, Unread):
+        if text := voters.of_heads(signatures.raw.heads):
+            return text
+        signatures.raw = signatures.raw.read()
     if length(signatures) != len(voters.votes):
         before = f"height {answers.height - 1} has {len(voters.votes)} validators"
         signatures.fail(f"has {length(signatures)} signatures, and {before}", "votes")

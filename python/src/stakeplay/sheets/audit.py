@@ -3,6 +3,7 @@
 Who wants it: an auditor, who trusts no code of the program; this page shares none with it, and reads the lines alone.
 One command:  python3 audit.py run.out             (`-` for standard input)
               python3 audit.py run.out run.jsonl   (and the first line of the input: what each user began with)
+              python3 audit.py day.out day.jsonl --before night.out  (what was resumed, behind an earlier report)
 What comes out: `WRONG line N: ..` for each disagreement, then one line, which for the example `life.out` is
     99 lines, 5 blocks, 19 transfers, 2 burns, 6 withdrawals (4 rewards recomputed), 1 slashes: all adds up
 Status: 0 all adds up, 1 something does not, 2 the output is cut or of another program.
@@ -24,6 +25,9 @@ ALL = "all"
 GROUPS = "supply account validator delegation pending unbonding redelegation signing pool".split()
 LETTERS = "qpzry9x8gf2tvdw0s3jn54khce6mua7l"  # of the spellings of BIP 173, by their values
 STEPS = {("unbonded", "bonded"), ("unbonding", "bonded"), ("bonded", "unbonding"), ("unbonding", "unbonded")}
+
+
+FAULTS = ValueError, KeyError, TypeError, AttributeError, ArithmeticError, RecursionError
 
 
 def listed(coins, number):  # by denomination, each once, in order and without zeros
@@ -76,6 +80,7 @@ class Audit:
         # by a validator and a denomination; by None what the pool has
         self.owes, self.owed, self.total = False, defaultdict(int), defaultdict(int)
         self.period, self.ratio, self.starts, self.taken = {}, {}, defaultdict(dict), Counter()
+        self.first = None   # height and time of the first block of an input of `resume`, until that block was read
         self.alive, self.slashed, self.dead, self.status, self.jail, self.gone = set(), set(), set(), {}, {}, 0
 
     def ask(self, holds, text):
@@ -138,6 +143,8 @@ class Audit:
             stop(f"line {self.place}: the output is cut before this block")
         self.ask(line["time"].rstrip("Z") >= self.time, "time goes back")
         self.part, self.height, self.time = "block", line["height"], line["time"].rstrip("Z")
+        if self.first == (self.height, plain(line["time"])):
+            self.first = None
         self.tx, self.told = 0, None
 
     def on_accepted(self, line):
@@ -460,12 +467,44 @@ class Audit:
         self.begin[BONDED, bond], self.begin[UNBONDED, bond] = bonded, tokens.total() - bonded
 
 
-def main(output, first=None):
+    def begin_at(self, line):
+        """What the first line of an input of `resume` gives: a height, and its time."""
+        self.first = line["height"], plain(line["time"])
+        if type(line["height"]) is not int or type(line["votes"]) is not list or type(line["txs"]) is not list:
+            raise ValueError(line)
+
+    def begin_behind(self, name):
+        """What the report at the end of an output before tells."""
+        with open(name, "rb") as file:
+            texts = file.read().splitlines(keepends=True)
+        first = max((place for place, text in enumerate(texts) if b'"kind":"supply"' in text), default=len(texts))
+        try:
+            for self.place, text in enumerate(texts[first:], first + 1):
+                line = json.loads(text.decode())
+                if line["kind"] not in GROUPS or not text.endswith(b"\n"):
+                    raise ValueError(line)
+                self.take(line)
+        except FAULTS:
+            stop(f"{name}: line {self.place}: this is no line of a report")
+        if self.part != "end":
+            stop(f"{name}: it does not end with a report")
+        self.place = 0
+
+
+def plain(moment):  # without zeros at the end of its part of a second
+    before, point, part = moment.rstrip("Z").partition(".")
+    return (before + point + part.rstrip("0")).rstrip(".")
+
+
+def main(output, first=None, before=None):
     audit = Audit()
     try:
+        if before is not None:
+            audit.begin_behind(before)
         if first is not None:
             with open(first, "rb") as file:
-                audit.begin_with(json.loads(file.readline().decode()))
+                line = json.loads(file.readline().decode())
+            (audit.begin_at if line.get("kind") == "block" else audit.begin_with)(line)
         for audit.place, text in enumerate(sys.stdin.buffer if output == "-" else open(output, "rb"), 1):
             if not text.endswith(b"\n"):
                 stop(f"line {audit.place}: the output is cut in this line")
@@ -474,10 +513,13 @@ def main(output, first=None):
         raise
     except OSError as fault:
         stop(f"{fault.filename or output}: {fault.strerror}")
-    except (ValueError, KeyError, TypeError, AttributeError, ArithmeticError, RecursionError):
-        stop(f"line {audit.place}: this is no line of stakeplay's output" if audit.place else f"{first}: no genesis")
-    if audit.part in ("", "block") or audit.part == "report" and (audit.height is not None or audit.group != "supply"):
+    except FAULTS:
+        stop(f"line {audit.place}: this is no line of stakeplay's output" if audit.place else f"{first}: no genesis and no block")
+    is_report = audit.part == "report" and (audit.height is not None or audit.group != "supply")
+    if not audit.place or audit.part in ("", "block") or is_report:
         stop(f"the output is cut after line {audit.place}: the end of its report is missing")
+    if audit.first is not None:
+        stop(f"{first}: this is not the input of that output")
     seen = audit.kinds
     print(f"{audit.place} lines, {seen['block']} blocks, {seen['transfer']} transfers, {seen['burn']} burns, "
           f"{seen['paid']} withdrawals ({seen['reward']} rewards recomputed), {seen['slashed']} slashes: "
@@ -488,10 +530,11 @@ def main(output, first=None):
 def command():
     parser = Parser(description=__doc__, formatter_class=argparse.RawDescriptionHelpFormatter, allow_abbrev=False)
     parser.add_argument("output", metavar="OUTPUT", help="what the program wrote; - for standard input")
-    parser.add_argument("input", metavar="INPUT", nargs="?", help="the input of `replay`, of which the first line is read")
+    parser.add_argument("input", metavar="INPUT", nargs="?", help="the input of `replay` or `resume`, of which the first line is read")
+    parser.add_argument("--before", metavar="FILE", help="an output before, whose report tells what stood then")
     words = parser.parse_args()
     try:
-        status = main(words.output, words.input)
+        status = main(words.output, words.input, words.before)
         sys.stdout.flush()
     except BrokenPipeError:
         os.dup2(os.open(os.devnull, os.O_WRONLY), 1)

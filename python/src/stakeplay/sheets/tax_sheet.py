@@ -18,7 +18,8 @@ Whether a statement is right is another question: `check_statement.py`.
 
 A refusal names nobody: it is told of the payer of its fee, so one without a fee is told only with the input beside
 the output, as is what a slash takes of a delegation of the genesis. Burns of unbonding entries name no delegator and
-are in no sheet; what is left of an entry is the row `unbonded`. A row of a refusal ends by the place of its message,
+are in no sheet; what is left of an entry is the row `unbonded`. Of what `resume` wrote the input is its own, and --before
+the output of the night before, whose report tells the stakes that stood. A row of a refusal ends by the place of its message,
 its kind (with the input), the refusal's name and condition, and with `--hashes` the transaction's hash.
 With --year the sheet is that of a tax year, in whole coins, with values of --prices, hashes of --hashes, a sum of each
 kind, and balances that add up; with --format in the columns of Koinly or CoinTracking (written from memory of them).
@@ -178,6 +179,7 @@ def arguments() -> argparse.Namespace:
     parser.add_argument("address", metavar="ADDRESS", type=an_address, help="of the account, as the run spells it")
     parser.output()
     parser.input_beside()
+    parser.before()
     parser.add_argument("--statements", metavar="FILE", help="reward statements, as the command `statement` makes them")
     parser.unknown()
     tax_year.add_words(parser)
@@ -197,7 +199,7 @@ def main() -> None:
     statements = statements_of(words.statements) if words.statements is not None else {}
     sheet = Sheet(words.address, Input(words.input) if words.input is not None else None, statements, asked)
     sheet.hashes = hashes_of(words.hashes)
-    for line in lines(words.output):
+    for line in lines(words.output, words.before):
         sheet.take(line)
     sheet.end()
 

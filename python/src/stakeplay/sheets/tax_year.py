@@ -23,6 +23,7 @@ from decimal import ROUND_HALF_EVEN, Decimal, getcontext
 from typing import Any, Iterator, NamedTuple, TextIO
 
 from stakeplay.calling import a_year
+from stakeplay.lines import reading
 from stakeplay.lines.hashes import hashes_of
 from stakeplay.lines.reading import ONE, Input, Stakes, lines, raw, stop, whole
 from stakeplay.pages.given import Given
@@ -310,10 +311,10 @@ def write(words: argparse.Namespace) -> None:
     given = Given([] if words.input is None else [words.input])
     held = None if words.input is None else Input(words.input)
     year = Year(words.address, words.year, given, hashes_of(words.hashes))
-    for place, line in enumerate(lines(words.output), 1):
+    for line in lines(words.output, words.before):
         if held:
             held.take(line["kind"], line)
-        year.take(line, place)
+        year.take(line, reading.PLACE)
     if not year.is_named and not getattr(words, "allow_unknown", False):
         stop(f"no line names {words.address}")
     text = io.StringIO()

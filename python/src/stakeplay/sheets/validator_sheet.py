@@ -11,7 +11,8 @@ input up to a block, and it has its own. `stake` is the sum of the stakes on whi
 slash: the tokens but for rounding. `outstanding` is reckoned from the genesis on; `commission` too, with the input
 beside the output, which has the rates. The votes (`power`, `signed`) are the input's. Several slashes of a block are
 added up in `burned`. A cell is empty where no line tells its value, and the picture's line of the stake begins where one
-is known: of what `resume` wrote that is its report, or the report before it (`cat before.out day.out |`, and `-`).
+is known: of what `resume` wrote that is its report, or with --before that of the night before, which tells the rate, the
+status and what is outstanding, too; the input is then that of `resume`.
 Status: 0, or 1 where a report has another value than was reckoned, or 2 where the output is cut or of another program,
 or where no line of it names the validator.
 """
@@ -258,6 +259,7 @@ def arguments() -> argparse.Namespace:
     parser.add_argument("operator", metavar="OPERATOR", type=an_operator, help="the validator's, as the run spells it")
     parser.output()
     parser.input_beside()
+    parser.before()
     parser.add_argument("--svg", metavar="FILE", help="where a picture goes")
     parser.unknown()
     return parser.words()
@@ -268,7 +270,7 @@ def main() -> int:
     words = arguments()
     asked = Asked([words.operator], is_operator=True, allow_unknown=words.allow_unknown)
     sheet = Sheet(words.operator, Input(words.input) if words.input is not None else None, asked)
-    for line in lines(words.output):
+    for line in lines(words.output, words.before):
         sheet.take(line)
     sheet.close()
     asked.end()
