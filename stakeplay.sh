@@ -19,9 +19,10 @@ done
 case "$self" in */*) here="${self%/*}" ;; *) here=. ;; esac
 called="$0"
 case "$called" in /*) called="${called##*/}" ;; esac
-base="$here" installed=''
+base="$here" installed='' package="$here/python/src"
 if [ ! -d "$here/crates" ] && [ -d "$here/../share/stakeplay/command" ]; then
     base="$here/../share/stakeplay" installed="$here/../libexec/stakeplay/stakeplay"
+    package="$base/python"
 fi
 parts="$base/command"
 
@@ -59,7 +60,9 @@ run() {
     if [ -n "${STAKEPLAY_PLAIN:-}" ] || ! is_able; then
         exec "$program" "$@"
     fi
-    local name pid='' caught='' status line last='' told end="end of $$"
+    local name pid='' caught='' status line last='' told begun='' end="end of $$"
+    # where the input begins, if it is a file: a line at fault can be read again there
+    [ ! -f /dev/fd/0 ] || while read -r -u 9 name line; do [ "$name" != pos: ] || begun="$line"; done 9</proc/self/fdinfo/0
     for name in HUP INT QUIT TERM; do
         trap "caught=$name; [ -z \"\$pid\" ] || kill -TERM \"\$pid\" 2>/dev/null" "$name"
     done

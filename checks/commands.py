@@ -6,7 +6,8 @@
 
 They are command/table.bash and command/faults.bash, which stakeplay.sh reads, the man page command/stakeplay.1, the
 completions command/completion.bash and command/_stakeplay (zsh), the page docs/COMMANDS.md, and, from the file VERSION,
-python/src/stakeplay/version.py. CHANGELOG.md has to tell of the version.
+python/src/stakeplay/version.py. CHANGELOG.md has to tell of the version. The tables of lines that are read become
+python/src/stakeplay/tables/members.json.
 """
 from __future__ import annotations
 
@@ -224,6 +225,50 @@ def faults_bash() -> str:
         array("STATUS_OF", {str(row["number"]): row["text"] for row in TABLE["statuses"]})])
 
 
+# ---- the members of lines, for who looks at a line again
+
+MEMBER = re.compile(r"(\d+) (\w+)(\?)? \((.*?)\)(?:, |$)")
+
+
+def told_form(number: int, text: str) -> str:
+    """The form of a member in a word: of a user that is an operator behind `bech32`, `operator`."""
+    bare = re.split(r"[,;:]", text)[0].removeprefix("a ").strip()
+    if text.startswith(("the string ", "a string ")):
+        return text.split("string ", 1)[1]
+    return "operator" if bare == "user" and number in operators() else bare
+
+
+def members_of(cells: list[tuple[str, str, str, str]]) -> list[Row]:
+    """Members with their numbers, names and forms, in their order; a list of objects has theirs."""
+    out: list[Row] = []
+    for number, name, mark, text in cells:
+        row: Row = {"number": int(number), "name": name, "form": told_form(int(number), text)}
+        if inner := re.fullmatch(r"list of objects: (.*)", text):
+            row["of"] = members_of(MEMBER.findall(inner[1]))
+        if mark:
+            row["optional"] = True
+        out.append(row)
+    return out
+
+
+def members_json() -> str:
+    """The tables of lines that are read, as `stakeplay.lines.place` wants them."""
+    def numbered(heading: str, columns: list[str]) -> list[Row]:
+        return members_of([(row[0], row[1], "", row[2]) for row in tables.rows_below(heading, columns)])
+
+    def kinds(heading: str, columns: list[str]) -> Row:
+        return {kind: members_of(MEMBER.findall(row[-1])) for row in tables.rows_below(heading, columns)
+                for kind in row[0].split(", ")}
+    plain = ["number", "member", "form"]
+    params = ["number", "member of `params`", "form", "range"]
+    found = {"genesis": numbered("The genesis", plain), "params": numbered("The genesis", params),
+             "block": numbered("A block", plain), "message": kinds("A block", ["kind", "members"]),
+             "ballot": numbered("A ballot", plain), "statement": numbered("A statement", plain),
+             "entry": kinds("A statement", ["kind", "what happened", "members"]),
+             "ranges": {row[1]: row[3] for row in tables.rows_below("The genesis", params) if row[3]}}
+    return "{\n" + ",\n".join(f"{json.dumps(name)}: {json.dumps(value)}" for name, value in found.items()) + "\n}\n"
+
+
 # ---- the man page
 
 def roff(text: str) -> str:
@@ -390,6 +435,7 @@ def made() -> dict[str, str]:
     """The files, by their names."""
     return {"command/table.bash": table_bash(), "command/faults.bash": faults_bash(), "command/stakeplay.1": man_page(),
             "command/completion.bash": completion_bash(), "command/_stakeplay": completion_zsh(), "docs/COMMANDS.md": page(),
+            "python/src/stakeplay/tables/members.json": members_json(),
             "python/src/stakeplay/version.py": f'"""The version: made by checks/commands.py from VERSION."""\n__version__ = "{VERSION}"\n'}
 
 

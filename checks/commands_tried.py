@@ -2,7 +2,8 @@
 """What `checks/commands.sh` runs: the commands of stakeplay.sh, over the program that the first word names.
 
 Plain words do through the script what they do through the program, to the byte, and a run that does not end well has a
-second line, but where STAKEPLAY_PLAIN is set. What a new user types first works, or says what would. Each command in the natural order does what its plain words do, flags in any
+second line, but where STAKEPLAY_PLAIN is set. What a new user types first works, or says what would. Each
+member that a line lacks is told with its name and place. Each command in the natural order does what its plain words do, flags in any
 order. Help, version, links, signals, closed files; what runs where sources are changed; how long a start takes; the man page
 and the completions, where there are programs that read them.
 """
@@ -21,7 +22,7 @@ import subprocess
 import sys
 import tempfile
 import time
-from typing import Callable, Iterator
+from typing import Any, Callable, Iterator
 
 TOP = pathlib.Path(__file__).resolve().parent.parent
 PROGRAM = pathlib.Path(sys.argv[1]).resolve()
@@ -315,6 +316,86 @@ def try_first() -> None:
                 f"{words or 'no words'}: ended with {told(done)}; wanted {told_by!r}")
 
 
+# ---- where the fault of a line stands
+
+def all_messages() -> Any:
+    """A block that has a message of each kind, evidence and votes."""
+    spelled = {"user": USER, "operator": OPERATOR, "account": USER, "consensus address": "0" * 38 + "77", "number": 1, "decimal": "0.1",
+               "amount": "1", "coin": {"denom": "uatom", "amount": "1"}, "coins": [{"denom": "uatom", "amount": "1"}],
+               "object": json.loads(GENESIS)["params"]}
+    kinds = json.loads((TOP / "python/src/stakeplay/tables/members.json").read_text())["message"]
+    msgs = [{"kind": kind, **{member["name"]: spelled[member["form"]] for member in members}} for kind, members in kinds.items()]
+    evidence = [{"cons": "0" * 38 + "77", "height": 1, "time": "2024-01-01T00:00:00Z", "power": 1}]
+    fee = [{"denom": "uatom", "amount": "1"}]
+    votes = [{"cons": "0" * 38 + "77", "power": 1, "signed": True}]
+    return {**json.loads(FIRST), "votes": votes, "evidence": evidence, "txs": [{"payer": USER, "fee": fee, "msgs": msgs}]}
+
+
+def without_one(value: Any, path: str = "") -> Iterator[tuple[str, Any]]:
+    """A value without one of its members, in each way, and the path of the member."""
+    if isinstance(value, dict):
+        for name in value:
+            place = f"{path}.{name}" if path else name
+            yield place, {key: other for key, other in value.items() if key != name}
+            yield from ((where, {**value, name: other}) for where, other in without_one(value[name], place))
+    elif isinstance(value, list):
+        for at, element in enumerate(value):
+            for where, other in without_one(element, f"{path}[{at}]"):
+                yield where, [*value[:at], other, *value[at + 1:]]
+
+
+def from_file(words: list[str], room: str, given: bytes, **more: str) -> Done:
+    """How the script ends over a file as its input."""
+    path = pathlib.Path(room, "given.jsonl")
+    path.write_bytes(given)
+    with open(path, "rb") as file:
+        done = subprocess.run([str(SCRIPT), *words], stdin=file, capture_output=True, cwd=room, timeout=120,
+                              env=around(STAKEPLAY=str(PROGRAM), **more))
+    return done.returncode, done.stdout, done.stderr
+
+
+def try_places() -> None:
+    """A line that lacks a member, whichever, is told with its place and name; so is the fault of each case."""
+    statement = json.loads(max((TOP / "examples/recipes/statements.jsonl").read_text().splitlines(), key=len))
+    statement["entries"].append({"kind": "slashed", "burned": "1", "tokens": "2"})
+    ballot = {"kind": "ballot", "voter": USER, "option": "yes"}
+    lines = [("replay", b"", json.loads(GENESIS)), ("replay", GENESIS, all_messages()), ("check", b"", statement),
+             ("tally --store chain.db", b"", ballot)]
+    numbers = set()
+    with tempfile.TemporaryDirectory() as room:
+        script(["replay", "--store", "chain.db"], room, LIFE)
+        for words, before, line in lines:
+            seen = set()
+            for path, other in without_one(line):
+                name = path.rpartition(".")[2]
+                if (alike := re.sub(r"entries\[\d+\]|(accounts|validators|delegations|votes)\[\d+\]", r"\1", path)) in seen:
+                    continue
+                seen.add(alike)
+                status, _, err = from_file(words.split(), room, before + json.dumps(other).encode() + b"\n")
+                found = re.fullmatch(r"stakeplay: line \d: bad shape (\d+)\nstakeplay: (.*)\n", err.decode())
+                if not found and name in ("rate", "min_self_delegation"):
+                    continue    # which need not stand in an edit
+                wanted = rf"{re.escape(path)} is missing; {found[1] if found else ''} is {name}, of .*"
+                ask(status == 2 and found and re.fullmatch(wanted, found[2]), f"{words} without {path}: {err.decode()}")
+                numbers.add(int(found[1]) if found else 0)
+        shapes = {int(row.split(",")[0]) for row in (TOP / "examples/shapes.csv").read_text().splitlines()[1:]}
+        ask(shapes - numbers <= {0}, f"no line provokes the shapes {sorted(shapes - numbers)}")
+        for path in sorted([*TOP.glob("cases/**/*.end"), *TOP.glob("examples/*.end")]):
+            end = path.read_text().strip()
+            if not end.startswith("2 "):
+                continue
+            words = ["replay", *(["--bech32"] if path.parent.name == "bech32" else [])]
+            status, _, err = from_file(words, room, path.with_suffix(".jsonl").read_bytes())
+            told_lines = err.decode().splitlines()
+            is_placed = re.search(r"; \d+ is |; an object has a member|; .* |^stakeplay: (at byte|byte|the line|brackets)", told_lines[-1])
+            ask(f"{status} {told_lines[0]}" == end and len(told_lines) == 2 and (is_placed or re.search(r"missing|block [35]$", end)),
+                f"{path.name}: {err.decode()}")
+        done = from_file(["replay"], room, GENESIS + b"{}\n", PATH="/nowhere:/bin") if not os.path.exists("/bin/python3") else None
+        ask(done is None or done[2].endswith(b"\nstakeplay: 60 is kind, of block: missing, or not the string block\n"), "without Python")
+        piped = script(["replay"], room, GENESIS + b"{}\n")
+        ask(piped[2].endswith(b"\nstakeplay: 60 is kind, of block: missing, or not the string block\n"), f"of a pipe: {told(piped)}")
+
+
 # ---- help, version, links
 
 def try_help() -> None:
@@ -557,7 +638,7 @@ def timed(part: Callable[[], None]) -> None:
 
 def main() -> int:
     with concurrent.futures.ThreadPoolExecutor(4) as pool:  # most of the time is waited for processes
-        list(pool.map(timed, (try_plain, try_order, try_first, try_wrong, try_help, try_links, try_signals, try_files, try_stale, try_tools)))
+        list(pool.map(timed, (try_plain, try_order, try_first, try_places, try_wrong, try_help, try_links, try_signals, try_files, try_stale, try_tools)))
     timed(try_start)
     for text in bad:
         print(f"commands: {text}")

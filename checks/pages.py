@@ -123,7 +123,8 @@ KEPT = "./stakeplay.sh replay --store kept.db --keep < examples/history.jsonl > 
 REPLAYED = "head -n 4 examples/history.jsonl | ./stakeplay.sh chain.db replay > begun.out\n"
 BALLOTS = '{"kind":"ballot","voter":"' + USER + '","option":"yes"}'
 # the page; how the block begins; what comes before it; what a reader puts in; for each command what it is to write, or the
-# status that it ends with and what it is to write; None in place of all of this: it is not run here, since it proves
+# status that it ends with and what it is to write; None in place of all of this: it is not run here, since it proves, or
+# since checks/recipes_nights.py plays it
 ROWS = [
     ("README.md", "./stakeplay.sh replay", "", {"bash checks/all.sh": "true", "bash .ci/run": "true"},
      [writes(WHOLE), writes(""), writes("")]),
@@ -147,7 +148,9 @@ ROWS = [
       "py blocks": "py examples/recipes/data/blocks"}, [says("module-account"), says("total mint 3"), writes("")]),
     ("docs/RECIPES.md", "head -n 4 run.jsonl", "cp examples/life.jsonl run.jsonl\n", {"OPERATOR": OPERATOR},
      [says("2024-01-01T00:00:15Z,3,unbonding,yes,1570000,")]),
-    ("docs/RECIPES.md", "./stakeplay.sh chain.db resume", REPLAYED + "tail -n +5 examples/history.jsonl > day.jsonl\n",
+    ("docs/RECIPES.md", "python3 examples/recipes/every_night.py", None, {}, None),
+    ("docs/RECIPES.md", "./stakeplay.sh chain.db resume",
+     REPLAYED + "tail -n +5 examples/history.jsonl > day.jsonl\ncp begun.out night.out\n",
      {"FROM": "3", "TO": "5", "ADDRESS..": USER}, [writes(""), says("all adds up"), writes("")]),
     ("docs/RECIPES.md", "./stakeplay.sh chain.db tally", f"{REPLAYED}echo '{BALLOTS}' > ballots.jsonl\n", {},
      [(1, says("rejected without a quorum"))]),

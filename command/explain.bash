@@ -1,6 +1,7 @@
 # Sourced by stakeplay.sh where a run did not end well: what its line means, as a second one. The program's own line
 # stands before it as it is. `plain` has the words that the program was called with, `order` whether they came in the
-# natural order.
+# natural order, `begun` at which byte of standard input the program began, where that is a file, `package` where the
+# package is.
 . "$parts/faults.bash"
 
 # The second line for a status and a line of the program; nothing where there is no more to say.
@@ -26,7 +27,25 @@ explained() {
     'no past') why="${plain[0]} tells nothing of this height: it is below where its history begins, or above its last height" ;;
     *) [ -z "$line" ] || why="${STATUS_OF[$status]:-}" ;;
     esac
+    case "$line" in 'line '*': not JSON' | 'line '*': bad '*) add_place "$line" ;; esac
     [ -z "$why" ] || echo "stakeplay: $why"
+}
+
+# Adds where the fault of a line stands, where its file can be read again and Python is there (stakeplay.lines.place).
+add_place() {
+    local number="${1#line }" form=hex name place
+    [ -n "$begun" ] && command -v python3 >/dev/null || return 0
+    [ "${plain[1]:-}" != bech32 ] || form=bech32
+    for name in "${plain[@]:1}"; do
+        case "$name" in replay | resume | tally | check | statement) break ;; esac
+    done
+    place="$(PYTHONDONTWRITEBYTECODE=1 PYTHONPATH="$package" python3 -m stakeplay.lines.place \
+        "$begun" "$form" "$name" "${number%%:*}" ${1#*: } 2>/dev/null)"
+    case "$place $1" in
+    ' '*) ;;
+    *': not JSON') why="$place" ;;
+    *) why="$place; $why" ;;
+    esac
 }
 
 # How a word before the command is given: as a flag in the natural order.
