@@ -130,7 +130,7 @@ def array(name: str, values: dict[str, str]) -> str:
 def printed(text: str) -> str:
     """A command of bash that prints a text, in which `stakeplay` is as the script was called."""
     shown = re.sub(r"([\\$`])", r"\\\1", text)
-    shown = re.sub(r"(?<![\w/])stakeplay (?=[a-zC-])", "$called ", shown)
+    shown = re.sub(r"(?<![\w/])stakeplay (?=[a-zA-Z-])", "$called ", shown)
     return f"        cat <<TEXT\n{shown}TEXT\n"
 
 

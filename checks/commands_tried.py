@@ -2,7 +2,7 @@
 """What `checks/commands.sh` runs: the commands of stakeplay.sh, over the program that the first word names.
 
 Plain words do through the script what they do through the program, to the byte, and a run that does not end well has a
-second line, but where STAKEPLAY_PLAIN is set. Each command in the natural order does what its plain words do, flags in any
+second line, but where STAKEPLAY_PLAIN is set. What a new user types first works, or says what would. Each command in the natural order does what its plain words do, flags in any
 order. Help, version, links, signals, closed files; what runs where sources are changed; how long a start takes; the man page
 and the completions, where there are programs that read them.
 """
@@ -252,6 +252,69 @@ def try_wrong() -> None:
             ask(done == (1, b"", b"stakeplay: usage\n"), f"{words} behind STAKEPLAY_PLAIN: ended with {told(done)}")
 
 
+# ---- what a new user types first
+
+HISTORY = (TOP / "examples/history.jsonl").read_bytes()
+SPELLED = (TOP / "cases/bech32/history.jsonl").read_bytes()
+GENESIS, FIRST = HISTORY.splitlines(keepends=True)[:2]
+# words; what is given; the status; what is written, or said by the second line. Stores: plain.db, kept.db (with a history)
+FIRST_WORDS: list[tuple[str, bytes, int, str]] = [
+    ("", b"", 0, r"usage: stakeplay(\.sh)? COMMAND"),
+    ("--help", b"", 0, r"usage: stakeplay(\.sh)? COMMAND"),
+    ("help", b"", 0, r"usage: stakeplay(\.sh)? COMMAND"),
+    ("- --help", b"", 0, r"usage: stakeplay(\.sh)? COMMAND"),
+    ("--version", b"", 0, r"stakeplay \d+\.\d+\.\d+, "),
+    ("-V", b"", 0, r"stakeplay \d+\.\d+\.\d+, "),
+    ("version", b"", 0, r"stakeplay \d+\.\d+\.\d+, "),
+    ("query --help", b"", 0, r"usage: stakeplay(\.sh)? query KIND"),
+    ("replay", HISTORY, 0, '"kind":"pool"'),
+    ("replay history.jsonl", b"", 1, "lines come from standard input: < history.jsonl"),
+    ("chain.db", b"", 1, "chain.db is no command; the commands are replay"),
+    ("run history.jsonl", b"", 1, "history.jsonl is no command; the commands are replay"),
+    ("query supply", b"", 1, "query goes on from a store: --store FILE says which"),
+    ("query delegation --store plain.db", b"", 1, "delegation is none of supply, pool, .*delegations ADDRESS"),
+    ("Query supply", b"", 1, "commands are written in small letters, query"),
+    (f"query validator osmovaloper1{'q' * 38} --store plain.db", b"", 1, "give --bech32, or 40 digits"),
+    (f"query account {USER[:-1]} --store plain.db", b"", 1, "has 39 digits, and is to have 40"),
+    (f"query account 0A{USER[2:]} --store plain.db", b"", 1, "has capital letters"),
+    (f"query account {'ab' * 20} --store plain.db", b"", 10, f"no line of account belongs to {'ab' * 20}"),
+    ("gen 7 1000000", b"", 1, "COUNT: 1000000 is not from 1 to 100000"),
+    ("query supply --store mistyped.db", b"", 9, "there is no file mistyped.db; replay makes one"),
+    ("replay --store plain.db", HISTORY, 9, "plain.db has rows: resume goes on from them"),
+    ("query supply --store kept.db", b"", 8, "neither --keep nor --height"),
+    ("kept.db query supply", b"", 8, "neither keep nor past"),
+    ("kept.db past 3 tally", b"", 1, "past stands before query alone"),
+    ("query supply --store kept.db --height 99", b"", 11, "kept.db tells nothing of this height"),
+    ("query supply --store folder", b"", 6, "folder is a folder"),
+    ("query supply --store history.jsonl", b"", 6, "history.jsonl is no database"),
+    ("replay --store no/such/chain.db", HISTORY, 6, "there is no folder no/such"),
+    ("replay", b"", 2, "standard input has no line; the first one is a genesis"),
+    ("replay", GENESIS + FIRST + b"\n", 2, "no JSON text of one object: it may be empty"),
+    ("replay", b"{\n", 2, "it may be empty, compressed, in several lines"),
+    ("replay", SPELLED, 2, r"25 is authority, of params: .*bech32 was not given"),
+    ("replay --bech32", HISTORY, 2, r"25 is authority, of params: .*bech32 was given"),
+    ("replay", GENESIS + GENESIS, 2, "60 is kind, of block: missing, or not the string block"),
+    ("replay", GENESIS.replace(b'"amount":"1000000"', b'"amount":1000000', 1), 2, "52 is amount, of a delegation of the genesis: .*1 to 38 digits"),
+    ("replay", GENESIS + FIRST.replace(b'"height":1', b'"height":2', 1), 2, "its height is not the last height plus one"),
+    ("resume --store plain.db", FIRST, 2, "its height is not the last height plus one"),
+]
+
+
+def try_first() -> None:
+    """Each works, or says what would."""
+    with tempfile.TemporaryDirectory() as room:
+        shutil.copy(TOP / "examples/history.jsonl", room)
+        os.mkdir(f"{room}/folder")
+        for words in ["replay", "--store", "plain.db"], ["replay", "--store", "kept.db", "--keep"]:
+            ask(script(words, room, HISTORY)[0] == 0, f"{words} does not make a store")
+        for words, given, status, told_by in FIRST_WORDS:
+            done = script(words.split(), room, given)
+            lines = done[2].decode().splitlines()
+            shown = done[1].decode() if status == 0 else lines[-1] if len(lines) == 2 else ""
+            ask(done[0] == status and re.search(told_by, shown) and (status or not lines),
+                f"{words or 'no words'}: ended with {told(done)}; wanted {told_by!r}")
+
+
 # ---- help, version, links
 
 def try_help() -> None:
@@ -494,7 +557,7 @@ def timed(part: Callable[[], None]) -> None:
 
 def main() -> int:
     with concurrent.futures.ThreadPoolExecutor(4) as pool:  # most of the time is waited for processes
-        list(pool.map(timed, (try_plain, try_order, try_wrong, try_help, try_links, try_signals, try_files, try_stale, try_tools)))
+        list(pool.map(timed, (try_plain, try_order, try_first, try_wrong, try_help, try_links, try_signals, try_files, try_stale, try_tools)))
     timed(try_start)
     for text in bad:
         print(f"commands: {text}")

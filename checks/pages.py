@@ -112,7 +112,7 @@ def spelled_rewards(out, err):
     """What a run that ends at that height, in the other form of addresses, tells of the delegator."""
     front = pathlib.Path("cases/bech32/history.jsonl").read_text().splitlines(True)[:4]
     told = subprocess.run([PROGRAM, "-", "bech32", "replay"], input="".join(front), capture_output=True, text=True).stdout
-    address = re.search(r"past 3 query rewards (\w+)", pathlib.Path("README.md").read_text())[1]
+    address = re.search(r"query rewards (\w+)", pathlib.Path("README.md").read_text())[1]
     return bool(out) and out == "".join(line for line in told.splitlines(True)
                                         if f'"delegator":"{address}","kind":"pending"' in line)
 
@@ -125,8 +125,11 @@ BALLOTS = '{"kind":"ballot","voter":"' + USER + '","option":"yes"}'
 # the page; how the block begins; what comes before it; what a reader puts in; for each command what it is to write, or the
 # status that it ends with and what it is to write; None in place of all of this: it is not run here, since it proves
 ROWS = [
-    ("README.md", "./stakeplay.sh - replay", "", {"bash checks/all.sh": "true", "bash .ci/run": "true"},
+    ("README.md", "./stakeplay.sh replay", "", {"bash checks/all.sh": "true", "bash .ci/run": "true"},
      [writes(WHOLE), writes(""), writes("")]),
+    ("README.md", "python3 examples/recipes/from_export.py", "",
+     {"export.json": "examples/recipes/data/export_1000.json", "head.json": "examples/recipes/data/block_1000.json",
+      "py blocks": "py examples/recipes/data/blocks"}, [says("module-account"), writes("")]),
     ("README.md", "head -n 4", "", {}, [begins, writes(REST), spelled_rewards, finds_right]),
     ("CONTRIBUTING.md", "cd crates/mod_staking", None, {}, None),
     ("docs/FORMATS.md", "sqlite3 FILE", REPLAYED, {"FILE": "chain.db"}, [writes(f"{851:032X}\n")]),

@@ -96,7 +96,7 @@ Reads a genesis and blocks from standard input, a line each. Writes what each do
         $called replay --store kept.db --keep < examples/history.jsonl
         $called replay --store chain.db --every 100 < examples/history.jsonl
 
-In plain words: stakeplay STORE [bech32] [keep | every N] replay
+In plain words: $called STORE [bech32] [keep | every N] replay
 TEXT
         ;;
     resume)
@@ -113,7 +113,7 @@ a report. A store that has a history is gone on with by --keep.
 
         tail -n +5 examples/history.jsonl | $called resume --store chain.db
 
-In plain words: stakeplay STORE [bech32] [keep | every N] resume
+In plain words: $called STORE [bech32] [keep | every N] resume
 TEXT
         ;;
     query)
@@ -144,7 +144,7 @@ changes nothing. A store that has a history is asked by --height.
         $called query supply --store chain.db
         $called query rewards ADDRESS --store kept.db --height 3 --bech32
 
-In plain words: stakeplay STORE [bech32] [past H] query KIND [ADDRESS]
+In plain words: $called STORE [bech32] [past H] query KIND [ADDRESS]
 TEXT
         ;;
     tally)
@@ -158,7 +158,7 @@ Reads ballots from standard input, a line each. Writes the totals of the options
 
         $called tally --store chain.db < ballots.jsonl
 
-In plain words: stakeplay STORE [bech32] tally
+In plain words: $called STORE [bech32] tally
 TEXT
         ;;
     statement)

@@ -30,6 +30,10 @@ unless_so stop.Write P p = p
 unless_so stop.Keep P p = p
 unless_so stop.NoMemory P p = tt
 
+-- where three things are as they were
+pub unless_same : {A B C : Type 0} (why : LineStop) (a : A) (b : B) (c : C) → UnlessNoMemory why ((a ≡ a) × (b ≡ b) × (c ≡ c))
+unless_same why a b c = unless_so why ((a ≡ a) × (b ≡ b) × (c ≡ c)) (refl, refl, refl)
+
 unless_then : (why : LineStop) (P Q : Type 0) → (P → Q) → UnlessNoMemory why P → UnlessNoMemory why Q
 unless_then (stop.BadInput m fault) P Q f p = f p
 unless_then (stop.Long m) P Q f p = f p
