@@ -1,6 +1,7 @@
 #!/usr/bin/env python3
-"""Cases of the calls of `base_decimals` with their answers by Python's exact integers, as a text in a Rattle source file: a line
-for each case, with the call, its operands, and the answer's units or what is over, with its operands.
+"""Cases of the calls of `base_decimals` and of `base_shares` with their answers by Python's exact integers, as texts in Rattle
+source files: a line for each case, with the call, its operands, and the answer's units, or what is over, with its operands, or
+the word for what is refused.
 
     python3 bench/decimal_cases.py
 
@@ -198,10 +199,90 @@ for call, compute in CALLS.items():
     cases += [operands(call) for _ in range(16)]
     rows += [(call, a, b, c, compute(a, b, c)) for a, b, c in cases]
 
-file = pathlib.Path(__file__).parent.parent / "crates/test_values/src/decimal_cases.rt"
-with open(file, "w") as out:
-    print("//! Calls of decimals and their answers, written by bench/decimal_cases.py from exact integers.\n", file=out)
-    print(f'pub static CASES: &str = "\\', file=out)
-    for call, *operands, want in rows:
-        print(call, *operands, want, file=out)
-    print('";', file=out)
+MOST_TOKENS = ONE
+# Tokens, issued shares, and what is issued for, or asked for.
+ISSUED = [
+    (99, 100 * ONE, 10),
+    (1, ONE, 0),
+    (MOST_TOKENS, 2, 1),
+    (0, 0, 7),
+    (5, 0, 7),
+    (0, 0, 0),
+    (0, 1, 7),
+    (0, TOP, 0),
+    (MOST_TOKENS, TOP, MOST_TOKENS),
+    (MOST_TOKENS, TOP, MOST_TOKENS + 1),
+    (1, ONE * 10**12, 10**9),
+    (0, 0, 100 * ONE),
+    (0, 0, 2**128 - 1),
+]
+ASKED = [
+    (99, 100 * ONE, 10),
+    (99, 100 * ONE, 98),
+    (99, 100 * ONE, 99),
+    (99, 100 * ONE, 0),
+    (5, 0, 7),
+    (0, 0, 0),
+    (0, ONE, 7),
+    (1, TOP, 2),
+]
+# Tokens, issued shares, and a part of them: 0.5 and 1.5 units are ties; all but one unit of the shares is worth all tokens to
+# the nearest, and that unit keeps none.
+PARTS = [
+    (99, 100 * ONE, 10101010101010101010),
+    (99, 100 * ONE, 98989898989898989898),
+    (99, 100 * ONE, 100 * ONE),
+    (99, 100 * ONE, 0),
+    (0, 5, 3),
+    (0, 5, 5),
+    (1, 2 * ONE, 1),
+    (1, 2 * ONE, 3),
+    (2, 3, 2),
+    (MOST_TOKENS, 3, 2),
+    (MOST_TOKENS, TOP, TOP - 1),
+]
+
+
+def issued(tokens, shares, amount):
+    if shares == 0:
+        return answer(amount * ONE, "quotient", amount, ONE, 1)
+    return "rate-invalid" if tokens == 0 else shares_for(tokens, shares, amount)
+
+
+def shares_for(tokens, shares, amount):
+    return "no-tokens" if tokens == 0 else answer(shares * amount // tokens, "quotient", shares, amount, tokens)
+
+
+def value(rounded, tokens, shares, part):
+    return rounded(part * tokens * 10**36 // shares, ONE)
+
+
+def amount_out(tokens, shares, part):
+    return value(even, tokens, shares, part) // ONE
+
+
+SHARE_CALLS = {
+    "Issue": (ISSUED, issued),
+    "SharesFor": (ASKED, shares_for),
+    "ValueEven": (PARTS, lambda *case: value(even, *case)),
+    "ValueCut": (PARTS, lambda *case: value(cut, *case)),
+    "TokensKept": (PARTS, lambda *case: case[0] - amount_out(*case)),
+    "SharesLeft": (PARTS, lambda tokens, shares, part: shares - part),
+    "AmountOut": (PARTS, amount_out),
+}
+share_rows = [(call, *case, compute(*case)) for call, (cases, compute) in SHARE_CALLS.items() for case in cases]
+
+
+def write(name, what, rows):
+    """Writes the rows as the text of a source file."""
+    file = pathlib.Path(__file__).parent.parent / f"crates/test_values/src/{name}.rt"
+    with open(file, "w") as out:
+        print(f"//! Calls of {what} and their answers, written by bench/decimal_cases.py from exact integers.\n", file=out)
+        print('pub static CASES: &str = "\\', file=out)
+        for row in rows:
+            print(*row, file=out)
+        print('";', file=out)
+
+
+write("decimal_cases", "decimals", rows)
+write("share_cases", "shares", share_rows)

@@ -11,8 +11,12 @@ import time
 SECONDS = 900  # after which a check that has not ended is failed
 # the checks, those that take longest first
 IN_PYTHON = "page", "wrong_calls"
-CHECKS = {name: [sys.executable, "-B", f"checks/{name}.py"] if name in IN_PYTHON else ["bash", f"checks/{name}.sh"] for name in
-          "recipes stores page wrong_calls commands statements install pages words repository lemmas cases lines pipes trials caught release".split()}
+NAMES = (
+    "recipes stores page wrong_calls commands statements install pages words repository lemmas cases forms lines pipes "
+    "trials caught release"
+).split()
+CHECKS = {name: [sys.executable, "-B", f"checks/{name}.py"] if name in IN_PYTHON else ["bash", f"checks/{name}.sh"]
+          for name in NAMES}
 # what a check counts: `NAME: 12 answers compared, 0 differ`
 COUNTED = re.compile(r"^(?:[\w/]+: )?(?:\d+ \w+, )?(\d+) [a-z ]+, (\d+) (?:differ|not |ended )", re.M)
 BREAK = " \\"  # what ends a line of a command that goes on

@@ -1,5 +1,6 @@
 //! Texts of addresses in either form, by values that another program wrote.
 
+use crate::checks::holds;
 use base_bech32::Form;
 use base_types::{Account, Addr, ConsAddr, Module};
 use line_json::{account_of_text, cons_of_text, operator_asked};
@@ -43,7 +44,7 @@ fn accounts_are_read_in_either_form(rt: HostRuntime) {
         (Form::Bech32, DIGITS, None),
         (Form::Bech32, "fee_collector", None),
     ] {
-        assert!(rt; account_of_text(form, text) == account, "{text}");
+        holds(&rt, text, account_of_text(form, text) == account);
     }
 }
 
@@ -56,7 +57,7 @@ fn operators_are_read_in_either_form(rt: HostRuntime) {
         (Form::Bech32, ACCOUNT, None),
         (Form::Bech32, CONS, None),
     ] {
-        assert!(rt; operator_asked(form, text) == asked, "{text}");
+        holds(&rt, text, operator_asked(form, text) == asked);
     }
 }
 
@@ -69,6 +70,6 @@ fn consensus_addresses_are_read_in_either_form(rt: HostRuntime) {
         (Form::Bech32, CONS, Some(cons)),
         (Form::Bech32, OPERATOR, None),
     ] {
-        assert!(rt; cons_of_text(form, text) == read, "{text}");
+        holds(&rt, text, cons_of_text(form, text) == read);
     }
 }

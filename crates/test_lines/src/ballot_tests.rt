@@ -1,5 +1,6 @@
-//! Ballots read from lines, the faults of lines that spell none, and the line of a tally.
+//! Ballots read from lines, and the line of a tally. Lines that are no ballot are rows of `cases/forms.txt`.
 
+use crate::checks::holds;
 use base_bech32::Form;
 use base_decimals::Dec;
 use base_messages::LineFault;
@@ -38,48 +39,8 @@ fn each_choice_is_read(rt: HostRuntime) {
             Choice::Veto,
         ),
     ] {
-        assert!(rt; read(rt.alloc(), line) == Ok(Ballot { voter, choice }));
-    }
-}
-
-#[test]
-fn lines_that_are_no_ballot_have_their_fault(rt: HostRuntime) {
-    for (line, fault) in [
-        ("", LineFault::NotJson),
-        (r#"{"kind":"ballot""#, LineFault::NotJson),
-        ("7", LineFault::BadShape(140)),
-        (r#"{"kind":"block"}"#, LineFault::BadShape(140)),
-        (r#"{"kind":"ballot"}"#, LineFault::BadShape(141)),
-        (
-            r#"{"kind":"ballot","voter":"fee_collector","option":"yes"}"#,
-            LineFault::BadShape(141),
-        ),
-        (
-            r#"{"kind":"ballot","voter":"0000000000000000000000000000000000000001","option":"yes"}"#,
-            LineFault::BadShape(141),
-        ),
-        (
-            r#"{"kind":"ballot","voter":"111111111111111111111111111111111111111A","option":"yes"}"#,
-            LineFault::BadShape(141),
-        ),
-        (
-            r#"{"kind":"ballot","voter":"1111111111111111111111111111111111111111"}"#,
-            LineFault::BadShape(142),
-        ),
-        (
-            r#"{"kind":"ballot","voter":"1111111111111111111111111111111111111111","option":"veto"}"#,
-            LineFault::BadShape(142),
-        ),
-        (
-            r#"{"kind":"ballot","voter":"1111111111111111111111111111111111111111","option":1}"#,
-            LineFault::BadShape(142),
-        ),
-        (
-            r#"{"kind":"ballot","voter":"1111111111111111111111111111111111111111","option":"no","weight":"1"}"#,
-            LineFault::BadShape(0),
-        ),
-    ] {
-        assert!(rt; read(rt.alloc(), line) == Err(fault));
+        let ballot = Ballot { voter, choice };
+        holds(&rt, line, read(rt.alloc(), line) == Ok(ballot));
     }
 }
 
@@ -98,6 +59,7 @@ fn a_tally_is_written(rt: HostRuntime) {
         bonded: 1_000_000,
     };
     let mut out = Vec::new(rt.alloc());
-    assert!(rt; push_line_of_tally(rt.alloc(), &mut out, &tally).is_ok());
-    assert!(rt; out.as_slice() == TALLY_LINE.as_bytes());
+    let pushed = push_line_of_tally(rt.alloc(), &mut out, &tally);
+    holds(&rt, "memory", pushed.is_ok());
+    holds(&rt, "its line", out.as_slice() == TALLY_LINE.as_bytes());
 }

@@ -1,12 +1,15 @@
 //! Tests of the lines of inputs and outputs (`line_json`), of ballots and tallies (`line_ballots`), of reward statements
-//! (`line_statements`), and of reports and of answers to questions (`line_report`). They stand apart so that they are proved without these, and nothing waits for
-//! them.
+//! (`line_statements`), and of reports and of answers to questions (`line_report`). Lines that are not of their form are
+//! rows of `cases/forms.txt`, which the whole program reads. These stand apart so that what they try is proved without
+//! them, and nothing waits for them.
 #![tactic(auto)]
 
 #[cfg(test)]
 mod address_tests;
 #[cfg(test)]
 mod ballot_tests;
+#[cfg(test)]
+mod checks;
 #[cfg(test)]
 mod reading_tests;
 #[cfg(test)]

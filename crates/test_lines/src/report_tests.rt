@@ -1,5 +1,6 @@
 //! The report of a state with an item of each kind, and the answers to questions about it.
 
+use crate::checks::holds;
 use base_bech32::Form;
 use base_coins::{DecCoin, DecCoins};
 use base_decimals::Dec;
@@ -79,7 +80,7 @@ fn part(rt: &(impl Abort + AllocGlobal), raw: u128) -> DecCoins {
 fn put(rt: &impl Abort, items: &mut Vec<Item>, item: Item) {
     match items.push(item) {
         Ok(()) => (),
-        Err(_) => panic!(rt; "no memory"),
+        Err(_) => rt.panic("memory"),
     }
 }
 
@@ -237,10 +238,11 @@ fn pending_of(rt: &impl Abort, delegator: u8, coins: Option<DecCoins>) -> Pendin
 
 fn pending(rt: &(impl Abort + AllocGlobal)) -> Vec<Pending> {
     let mut pending = Vec::new(rt.alloc());
-    let second = pending.push(pending_of(rt, 0x22, Some(part(rt, 250_000_000_000_000_000))));
-    assert!(rt; second.is_ok());
+    let coins = part(rt, 250_000_000_000_000_000);
+    let second = pending.push(pending_of(rt, 0x22, Some(coins)));
+    holds(rt, "memory", second.is_ok());
     let first = pending.push(pending_of(rt, 0x11, None));
-    assert!(rt; first.is_ok());
+    holds(rt, "memory", first.is_ok());
     pending
 }
 
@@ -269,30 +271,67 @@ fn each_kind_has_its_lines_in_order(rt: HostRuntime) {
         "{{\"coins\":[],\"kind\":\"supply\"}}\n{ONES_LINE}{VALIDATOR_LINE}{ONES_DELEGATION}{TWOS_DELEGATION}{ONES_PENDING}{TWOS_PENDING}{UNBONDINGS}{REDELEGATION}{SIGNING}{POOL}"
     );
     let wanted = wanted.expect(&rt, "memory");
-    assert!(rt; text.expect(&rt, "memory").as_slice() == wanted.as_bytes());
+    let text = text.expect(&rt, "memory");
+    holds(&rt, "the report", text.as_slice() == wanted.as_bytes());
 }
 
 #[test]
 fn a_question_is_answered_by_the_lines_of_its_address(rt: HostRuntime) {
     let items = items(&rt);
     let pending = pending(&rt);
-    for (what, wanted) in [
-        (Query::Account(user(&rt, 0x11)), Some(ONES_LINE)),
-        (Query::Account(user(&rt, 0x22)), None),
-        (Query::Validator(user(&rt, 0x33)), Some(VALIDATOR_LINE)),
-        (Query::Validator(user(&rt, 0x11)), None),
-        (Query::Delegations(user(&rt, 0x22)), Some(TWOS_DELEGATION)),
-        (Query::Delegations(user(&rt, 0x33)), None),
-        (Query::Rewards(user(&rt, 0x11)), Some(ONES_PENDING)),
-        (Query::Rewards(user(&rt, 0x33)), None),
-        (Query::Unbondings(user(&rt, 0x11)), Some(UNBONDINGS)),
-        (Query::Unbondings(user(&rt, 0x22)), None),
-        (Query::Redelegations(user(&rt, 0x11)), Some(REDELEGATION)),
-        (Query::Redelegations(user(&rt, 0x22)), None),
-        (Query::Signing(ConsAddr::of([0x22; 20])), Some(SIGNING)),
-        (Query::Signing(ConsAddr::of([0x11; 20])), None),
+    for (case, what, wanted) in [
+        (
+            "an account",
+            Query::Account(user(&rt, 0x11)),
+            Some(ONES_LINE),
+        ),
+        ("no account", Query::Account(user(&rt, 0x22)), None),
+        (
+            "a validator",
+            Query::Validator(user(&rt, 0x33)),
+            Some(VALIDATOR_LINE),
+        ),
+        ("no validator", Query::Validator(user(&rt, 0x11)), None),
+        (
+            "a delegation",
+            Query::Delegations(user(&rt, 0x22)),
+            Some(TWOS_DELEGATION),
+        ),
+        ("no delegation", Query::Delegations(user(&rt, 0x33)), None),
+        (
+            "rewards",
+            Query::Rewards(user(&rt, 0x11)),
+            Some(ONES_PENDING),
+        ),
+        ("no rewards", Query::Rewards(user(&rt, 0x33)), None),
+        (
+            "unbondings",
+            Query::Unbondings(user(&rt, 0x11)),
+            Some(UNBONDINGS),
+        ),
+        ("no unbondings", Query::Unbondings(user(&rt, 0x22)), None),
+        (
+            "redelegations",
+            Query::Redelegations(user(&rt, 0x11)),
+            Some(REDELEGATION),
+        ),
+        (
+            "no redelegations",
+            Query::Redelegations(user(&rt, 0x22)),
+            None,
+        ),
+        (
+            "a signing record",
+            Query::Signing(ConsAddr::of([0x22; 20])),
+            Some(SIGNING),
+        ),
+        (
+            "no signing record",
+            Query::Signing(ConsAddr::of([0x11; 20])),
+            None,
+        ),
     ] {
-        assert!(rt; answers(&rt, &items, &pending, what, wanted));
+        holds(&rt, case, answers(&rt, &items, &pending, what, wanted));
     }
 }
 
@@ -303,20 +342,26 @@ fn a_question_about_all_has_an_answer_without_lines(rt: HostRuntime) {
     let pool = "{\"coins\":[],\"kind\":\"pool\"}\n";
     let line =
         "{\"address\":\"fee_collector\",\"coins\":[{\"amount\":\"10\",\"denom\":\"uatom\"}],\"kind\":\"account\"}\n";
-    for (what, wanted) in [
-        (Query::Supply, Some(supply)),
-        (Query::Pool, Some(pool)),
-        (Query::Validators, Some("")),
+    for (case, what, wanted) in [
+        ("the supply", Query::Supply, Some(supply)),
+        ("the pool", Query::Pool, Some(pool)),
+        ("no validators", Query::Validators, Some("")),
         (
+            "a module",
             Query::Account(Account::Module(Module::FeeCollector)),
             Some(line),
         ),
-        (Query::Account(Account::Module(Module::Bonded)), None),
         (
+            "a module without coins",
+            Query::Account(Account::Module(Module::Bonded)),
+            None,
+        ),
+        (
+            "a module's delegations",
             Query::Delegations(Account::Module(Module::FeeCollector)),
             None,
         ),
     ] {
-        assert!(rt; answers(&rt, &items, &[], what, wanted));
+        holds(&rt, case, answers(&rt, &items, &[], what, wanted));
     }
 }

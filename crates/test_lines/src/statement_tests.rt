@@ -1,5 +1,7 @@
-//! Statements read from lines and written as they were, in either form of addresses, and the lines of answers.
+//! Statements read from lines and written as they were, in either form of addresses, and the lines of answers. Lines that
+//! are no statement are rows of `cases/forms.txt`.
 
+use crate::checks::holds;
 use base_bech32::Form;
 use base_messages::LineFault;
 use json::Scratch;
@@ -47,32 +49,21 @@ fn statements_are_written_as_they_were_read(rt: HostRuntime) {
         (Form::Hex, SLASHED),
     ] {
         let statement = read(rt.alloc(), form, line).expect(&rt, "a statement");
-        assert!(rt; is_written(&rt, form, &statement, line));
+        holds(&rt, line, is_written(&rt, form, &statement, line));
     }
 }
 
 #[test]
 fn a_statement_is_spelled_in_either_form(rt: HostRuntime) {
     let statement = read(rt.alloc(), Form::Hex, TWO_THIRDS).expect(&rt, "a statement");
-    assert_eq!(rt; statement.height, 2);
-    assert_eq!(rt; statement.removals, 0);
-    assert_eq!(rt; statement.entries.len(), 3);
-    assert!(rt; is_written(&rt, Form::Bech32, &statement, SPELLED));
-}
-
-#[test]
-fn lines_that_are_no_statement_have_their_fault(rt: HostRuntime) {
-    for (form, line, number) in [
-        (Form::Hex, "7", 120),
-        (Form::Hex, r#"{"kind":"ballot"}"#, 120),
-        (Form::Hex, r#"{"kind":"statement"}"#, 121),
-        (Form::Bech32, TWO_THIRDS, 121),
-        (Form::Hex, SPELLED, 121),
-    ] {
-        let fault = read(rt.alloc(), form, line).err();
-        assert!(rt; fault == Some(LineFault::BadShape(number)));
-    }
-    assert!(rt; read(rt.alloc(), Form::Hex, "{").err() == Some(LineFault::NotJson));
+    holds(&rt, "the height", statement.height == 2);
+    holds(&rt, "no removals", statement.removals == 0);
+    holds(&rt, "three entries", statement.entries.len() == 3);
+    holds(
+        &rt,
+        "spelled",
+        is_written(&rt, Form::Bech32, &statement, SPELLED),
+    );
 }
 
 #[test]
@@ -82,5 +73,5 @@ fn answers_are_written(rt: HostRuntime) {
     push_line_of_answer(rt.alloc(), &mut out, 20, false).expect(&rt, "memory");
     let lines =
         "{\"kind\":\"checked\",\"line\":1,\"yes\":true}\n{\"kind\":\"checked\",\"line\":20,\"yes\":false}\n";
-    assert!(rt; out.as_slice() == lines.as_bytes());
+    holds(&rt, "two answers", out.as_slice() == lines.as_bytes());
 }

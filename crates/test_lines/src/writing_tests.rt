@@ -1,5 +1,6 @@
 //! Lines of a block: of the largest numbers, and of results that are over the limit of decimals.
 
+use crate::checks::holds;
 use base_bech32::Form;
 use base_decimals::{Dec, Over, OverKind};
 use base_messages::{BlockReport, Outcome, TxReport};
@@ -49,26 +50,18 @@ fn the_largest_numbers_are_written(rt: HostRuntime) {
         period: 2,
         stake: most.expect(&rt, "below the limit"),
     };
-    assert!(rt;
-        tells(
-            &rt,
-            started,
-            "{\"delegator\":\"3333333333333333333333333333333333333333\",\"height\":7,\"kind\":\"started\",\"period\":2,\"stake\":\"99999999999999999999.999999999999999999\",\"validator\":\"3333333333333333333333333333333333333333\"}"
-        )
-    );
+    let line =
+        "{\"delegator\":\"3333333333333333333333333333333333333333\",\"height\":7,\"kind\":\"started\",\"period\":2,\"stake\":\"99999999999999999999.999999999999999999\",\"validator\":\"3333333333333333333333333333333333333333\"}";
+    holds(&rt, line, tells(&rt, started, line));
     let twentieth = Dec::from_raw(50_000_000_000_000_000);
     let slashed = Fact::Slashed {
         validator: user,
         fraction: twentieth.expect(&rt, "below the limit"),
         burned: 340_282_366_920_938_463_463_374_607_431_768_211_455,
     };
-    assert!(rt;
-        tells(
-            &rt,
-            slashed,
-            "{\"burned\":\"340282366920938463463374607431768211455\",\"fraction\":\"0.050000000000000000\",\"height\":7,\"kind\":\"slashed\",\"validator\":\"3333333333333333333333333333333333333333\"}"
-        )
-    );
+    let line =
+        "{\"burned\":\"340282366920938463463374607431768211455\",\"fraction\":\"0.050000000000000000\",\"height\":7,\"kind\":\"slashed\",\"validator\":\"3333333333333333333333333333333333333333\"}";
+    holds(&rt, line, tells(&rt, slashed, line));
 }
 
 /// Whether the block at height 7 whose only transaction ends so has this line behind its own.
@@ -80,7 +73,7 @@ fn ends(rt: &(impl Abort + AllocGlobal), outcome: Outcome, line: &str) -> bool {
     let mut txs = Vec::new(rt.alloc());
     match txs.push(tx) {
         Ok(()) => (),
-        Err(_) => panic!(rt; "no memory"),
+        Err(_) => rt.panic("memory"),
     }
     let report = BlockReport {
         height: 7,
@@ -125,6 +118,6 @@ fn what_is_over_is_told_by_its_kind(rt: HostRuntime) {
             "{\"height\":7,\"kind\":\"refused\",\"member\":11,\"msg\":2,\"number\":39,\"tx\":0}",
         ),
     ] {
-        assert!(rt; ends(&rt, outcome, line), "{line}");
+        holds(&rt, line, ends(&rt, outcome, line));
     }
 }

@@ -1,6 +1,7 @@
 //! Coins and decimal coins: sorted, added, taken apart, multiplied, divided and copied.
 
-use crate::decimals::dec;
+use crate::checks::holds;
+use crate::values::dec;
 use base_coins::{Coin, CoinFault, Coins, DecCoin, DecCoins};
 use base_decimals::{LIMIT, Over, OverKind};
 use base_types::{Copied, Denom};
@@ -35,54 +36,93 @@ fn dec_coins(rt: &(impl Abort + AllocGlobal), list: &[(&str, u128)]) -> DecCoins
     DecCoins::of(coins).expect(rt, "coins")
 }
 
-fn expect_coins(rt: &impl Abort, coins: &Coins, want: &[(&str, u128)]) {
-    assert_eq!(rt; coins.len(), want.len());
+fn has_coin(coins: &Coins, place: usize, denom: &Denom, amount: u128) -> bool {
+    match coins.at(place) {
+        Some(coin) => (coin.denom == *denom) & (coin.amount == amount),
+        None => false,
+    }
+}
+
+fn has_dec_coin(coins: &DecCoins, place: usize, denom: &Denom, raw: u128) -> bool {
+    match coins.at(place) {
+        Some(coin) => (coin.denom == *denom) & (coin.amount.raw() == raw),
+        None => false,
+    }
+}
+
+fn expect_coins(rt: &impl Abort, case: &str, coins: &Coins, want: &[(&str, u128)]) {
     for (place, (name, amount)) in want.iter().enumerate() {
-        let coin = coins.at(place).expect(rt, "a coin");
-        assert!(rt; coin.denom == denom(rt, name));
-        assert_eq!(rt; coin.amount, *amount);
-        assert_eq!(rt; coins.amount_of(&coin.denom), *amount);
+        let denom = denom(rt, name);
+        holds(rt, case, has_coin(coins, place, &denom, *amount));
+        holds(rt, case, coins.amount_of(&denom) == *amount);
     }
-    assert!(rt; coins.at(want.len()).is_none());
+    holds(
+        rt,
+        case,
+        (coins.len() == want.len()) & coins.at(want.len()).is_none(),
+    );
 }
 
-fn expect_dec_coins(rt: &impl Abort, coins: &DecCoins, want: &[(&str, u128)]) {
-    assert_eq!(rt; coins.len(), want.len());
+fn expect_dec_coins(rt: &impl Abort, case: &str, coins: &DecCoins, want: &[(&str, u128)]) {
     for (place, (name, raw)) in want.iter().enumerate() {
-        let coin = coins.at(place).expect(rt, "a coin");
-        assert!(rt; coin.denom == denom(rt, name));
-        assert_eq!(rt; coin.amount.raw(), *raw);
-        assert_eq!(rt; coins.amount_of(&coin.denom).raw(), *raw);
+        let denom = denom(rt, name);
+        holds(rt, case, has_dec_coin(coins, place, &denom, *raw));
+        holds(rt, case, coins.amount_of(&denom).raw() == *raw);
     }
-    assert!(rt; coins.at(want.len()).is_none());
+    holds(
+        rt,
+        case,
+        (coins.len() == want.len()) & coins.at(want.len()).is_none(),
+    );
 }
 
-fn gives_coins(rt: &impl Abort, coins: Result<Coins, CoinFault>, want: &[(&str, u128)]) {
-    expect_coins(rt, &coins.expect(rt, "coins"), want);
+fn gives_coins(
+    rt: &impl Abort,
+    case: &str,
+    coins: Result<Coins, CoinFault>,
+    want: &[(&str, u128)],
+) {
+    expect_coins(rt, case, &coins.expect(rt, "coins"), want);
 }
 
-fn gives_dec_coins(rt: &impl Abort, coins: Result<DecCoins, CoinFault>, want: &[(&str, u128)]) {
-    expect_dec_coins(rt, &coins.expect(rt, "coins"), want);
+fn gives_dec_coins(
+    rt: &impl Abort,
+    case: &str,
+    coins: Result<DecCoins, CoinFault>,
+    want: &[(&str, u128)],
+) {
+    expect_dec_coins(rt, case, &coins.expect(rt, "coins"), want);
 }
 
 #[test]
 fn a_difference_is_short_at_the_first_greater_coin(rt: HostRuntime) {
     let here = coins(&rt, &[("uatom", 5)]);
     let other = coins(&rt, &[("uatom", 2), ("uosmo", 1)]);
-    assert!(rt; here.sub_checked(rt.alloc(), &other).err() == Some(CoinFault::Short(1)));
+    let second = here.sub_checked(rt.alloc(), &other).err();
+    holds(
+        &rt,
+        "short at the second",
+        second == Some(CoinFault::Short(1)),
+    );
     let more = coins(&rt, &[("uatom", 6), ("uosmo", 1)]);
-    assert!(rt; here.sub_checked(rt.alloc(), &more).err() == Some(CoinFault::Short(0)));
+    let first = here.sub_checked(rt.alloc(), &more).err();
+    holds(
+        &rt,
+        "short at the first",
+        first == Some(CoinFault::Short(0)),
+    );
     let rest = other.sub_checked(rt.alloc(), &coins(&rt, &[("uosmo", 1)]));
-    gives_coins(&rt, rest, &[("uatom", 2)]);
+    gives_coins(&rt, "what is left", rest, &[("uatom", 2)]);
 }
 
 #[test]
 fn a_decimal_coin_splits_into_whole_and_fraction(rt: HostRuntime) {
     let list = dec_coins(&rt, &[("uatom", 2_750_000_000_000_000_000), ("uosmo", 1)]);
     let (whole, fraction) = list.split(rt.alloc()).expect(&rt, "two lists");
-    expect_coins(&rt, &whole, &[("uatom", 2)]);
+    expect_coins(&rt, "the whole", &whole, &[("uatom", 2)]);
     expect_dec_coins(
         &rt,
+        "the fraction",
         &fraction,
         &[("uatom", 750_000_000_000_000_000), ("uosmo", 1)],
     );
@@ -100,11 +140,13 @@ fn the_smaller_list_has_the_smaller_amounts(rt: HostRuntime) {
     let one = dec_coins(&rt, &[("a1x", 1_000_000_000_000_000_000)]);
     gives_dec_coins(
         &rt,
+        "the smaller second",
         two.min(rt.alloc(), &one),
         &[("a1x", 1_000_000_000_000_000_000)],
     );
     gives_dec_coins(
         &rt,
+        "the smaller first",
         one.min(rt.alloc(), &two),
         &[("a1x", 1_000_000_000_000_000_000)],
     );
@@ -116,6 +158,7 @@ fn a_sum_keeps_what_one_side_has_and_is_over_at_the_limit(rt: HostRuntime) {
     let other = coins(&rt, &[("uatom", 1), ("uosmo", 3)]);
     gives_coins(
         &rt,
+        "a sum",
         here.add(rt.alloc(), &other),
         &[("b1x", 7), ("uatom", 1), ("uosmo", 5)],
     );
@@ -130,7 +173,8 @@ fn a_sum_keeps_what_one_side_has_and_is_over_at_the_limit(rt: HostRuntime) {
         b: 1,
         c: 0,
     };
-    assert!(rt; most.add(rt.alloc(), &more).err() == Some(CoinFault::Over(over)));
+    let sum = most.add(rt.alloc(), &more).err();
+    holds(&rt, "a sum of 10^38", sum == Some(CoinFault::Over(over)));
 }
 
 // The expected numbers are by Python's whole numbers.
@@ -151,20 +195,25 @@ fn products_and_quotients_are_those_of_each_amount(rt: HostRuntime) {
         ("uosmo", 6_172_839_450_617_283_945),
         ("ux2", 1),
     ];
-    gives_dec_coins(&rt, list.mul_cut(rt.alloc(), rate), &cut);
+    gives_dec_coins(&rt, "cut", list.mul_cut(rt.alloc(), rate), &cut);
     let even = [
         ("uatom", 81_666_666_666_666_666_586),
         ("uosmo", 6_172_839_450_617_283_945),
         ("ux2", 2),
     ];
-    gives_dec_coins(&rt, list.mul_even(rt.alloc(), rate), &even);
+    gives_dec_coins(
+        &rt,
+        "to the nearest",
+        list.mul_even(rt.alloc(), rate),
+        &even,
+    );
     let thirds = [
         ("uatom", 544_444_444_444_444_443_910),
         ("uosmo", 41_152_263_004_115_226_300),
         ("ux2", 10),
     ];
     let three = dec(&rt, 3_000_000_000_000_000_000);
-    gives_dec_coins(&rt, list.quo_cut(rt.alloc(), three), &thirds);
+    gives_dec_coins(&rt, "a third", list.quo_cut(rt.alloc(), three), &thirds);
     let over = Over {
         kind: OverKind::Quotient,
         a: 1_633_333_333_333_333_331_730,
@@ -172,7 +221,12 @@ fn products_and_quotients_are_those_of_each_amount(rt: HostRuntime) {
         c: 1,
     };
     let least = dec(&rt, 1);
-    assert!(rt; list.quo_cut(rt.alloc(), least).err() == Some(CoinFault::Over(over)));
+    let quotient = list.quo_cut(rt.alloc(), least).err();
+    holds(
+        &rt,
+        "a quotient above",
+        quotient == Some(CoinFault::Over(over)),
+    );
 }
 
 #[test]
@@ -180,6 +234,7 @@ fn whole_amounts_become_decimals_below_10_to_the_20(rt: HostRuntime) {
     let list = coins(&rt, &[("uatom", 3), ("uosmo", 99_999_999_999_999_999_999)]);
     gives_dec_coins(
         &rt,
+        "decimals",
         DecCoins::of_coins(rt.alloc(), &list),
         &[
             ("uatom", 3_000_000_000_000_000_000),
@@ -193,16 +248,17 @@ fn whole_amounts_become_decimals_below_10_to_the_20(rt: HostRuntime) {
         b: 1_000_000_000_000_000_000,
         c: 1,
     };
-    assert!(rt; DecCoins::of_coins(rt.alloc(), &more).err() == Some(CoinFault::Over(over)));
+    let decimals = DecCoins::of_coins(rt.alloc(), &more).err();
+    holds(&rt, "10^20", decimals == Some(CoinFault::Over(over)));
 }
 
 #[test]
 fn coins_in_any_order_are_sorted_without_zeros(rt: HostRuntime) {
-    expect_coins(&rt, &coins(&rt, &[]), &[]);
-    expect_dec_coins(&rt, &DecCoins::new(rt.alloc()), &[]);
+    expect_coins(&rt, "none", &coins(&rt, &[]), &[]);
+    expect_dec_coins(&rt, "no decimals", &DecCoins::new(rt.alloc()), &[]);
     let list = coins(&rt, &[("uosmo", 4), ("b1x", 0), ("uatom", 2)]);
-    expect_coins(&rt, &list, &[("uatom", 2), ("uosmo", 4)]);
-    assert_eq!(rt; list.amount_of(&denom(&rt, "b1x")), 0);
+    expect_coins(&rt, "sorted", &list, &[("uatom", 2), ("uosmo", 4)]);
+    holds(&rt, "of 0", list.amount_of(&denom(&rt, "b1x")) == 0);
 }
 
 fn copy_of<T: Copied>(rt: &impl Abort, value: &T) -> T {
@@ -212,14 +268,19 @@ fn copy_of<T: Copied>(rt: &impl Abort, value: &T) -> T {
 #[test]
 fn copies_are_equal(rt: HostRuntime) {
     let list = coins(&rt, &[("uatom", 2), ("uosmo", 4)]);
-    expect_coins(&rt, &copy_of(&rt, &list), &[("uatom", 2), ("uosmo", 4)]);
+    expect_coins(
+        &rt,
+        "a copy",
+        &copy_of(&rt, &list),
+        &[("uatom", 2), ("uosmo", 4)],
+    );
     let decimals = DecCoins::of_coins(rt.alloc(), &list).expect(&rt, "decimals");
     let copy = copy_of(&rt, &decimals);
-    assert_eq!(rt; copy.len(), 2);
+    holds(&rt, "as long", copy.len() == 2);
     let coin = copy.at(1).expect(&rt, "a coin");
-    assert!(rt; copy_of(&rt, coin) == *coin);
+    holds(&rt, "of a decimal coin", copy_of(&rt, coin) == *coin);
     let whole = list.at(0).expect(&rt, "a coin");
-    assert!(rt; copy_of(&rt, whole) == *whole);
+    holds(&rt, "of a coin", copy_of(&rt, whole) == *whole);
 }
 
 #[test]
@@ -239,7 +300,11 @@ fn a_denomination_stands_once_also_with_amount_0(rt: HostRuntime) {
         },
     ];
     let list = list.expect(&rt, "memory");
-    assert!(rt; DecCoins::of(list).err() == Some(CoinFault::Repeated));
+    holds(
+        &rt,
+        "twice",
+        DecCoins::of(list).err() == Some(CoinFault::Repeated),
+    );
 }
 
 #[test]
@@ -258,9 +323,17 @@ fn the_longest_denomination_stands_behind_its_beginning(rt: HostRuntime) {
         },
     ];
     let list = DecCoins::of(list.expect(&rt, "memory")).expect(&rt, "coins");
-    assert!(rt; list.at(0).expect(&rt, "a coin").denom == shorter);
-    assert!(rt; list.at(1).expect(&rt, "a coin").denom == longest);
-    assert!(rt; list.amount_of(&longest) == one);
+    holds(
+        &rt,
+        "the shorter first",
+        has_dec_coin(&list, 0, &shorter, 1),
+    );
+    holds(
+        &rt,
+        "the longest behind",
+        has_dec_coin(&list, 1, &longest, 1),
+    );
+    holds(&rt, "its amount", list.amount_of(&longest) == one);
 }
 
 // The last digit of a number.
@@ -286,12 +359,21 @@ fn a_thousand_denominations_are_sorted_from_any_order(rt: HostRuntime) {
         list.push(coin).expect(&rt, "memory");
     }
     let list = DecCoins::of(list).expect(&rt, "coins");
-    assert_eq!(rt; list.len(), 1000);
+    holds(&rt, "all", list.len() == 1000);
     let twice = list.add(rt.alloc(), &list).expect(&rt, "a sum");
     for k in 0..1000u32 {
-        let denom = numbered(&rt, k);
-        assert!(rt; list.at(k as usize).expect(&rt, "a coin").denom == denom);
-        assert_eq!(rt; twice.amount_of(&denom).raw(), 2 * (u128::from(k) + 1));
+        let (denom, amount) = (numbered(&rt, k), u128::from(k) + 1);
+        holds(
+            &rt,
+            "in order",
+            has_dec_coin(&list, k as usize, &denom, amount),
+        );
+        holds(&rt, "twice", twice.amount_of(&denom).raw() == 2 * amount);
     }
-    gives_dec_coins(&rt, list.sub_checked(rt.alloc(), &list), &[]);
+    gives_dec_coins(
+        &rt,
+        "nothing is left",
+        list.sub_checked(rt.alloc(), &list),
+        &[],
+    );
 }

@@ -2,6 +2,7 @@
 
 ghost use Rattle.std.specs.Prelude.{◌≡◌, ◌<◌};
 
+use crate::checks::holds;
 use crate::role_tests::empty_ground;
 use crate::values::{coins, dec, validator};
 use base_coins::Coins;
@@ -86,7 +87,7 @@ fn periods_of_both<L: Ledger>(
 fn the_latest_height_is_told(rt: HostRuntime) {
     let nothing = coins(&rt, 0);
     let alone = period_alone::<Brand>(&rt, Blank::new(1), &nothing);
-    assert!(rt; alone == Some(1));
+    holds(&rt, "alone", alone == Some(1));
     let both = periods_of_both::<Brand>(&rt, Blank::new(1), &nothing);
-    assert!(rt; both == (Some(1), Some(0)));
+    holds(&rt, "in a pair", both == (Some(1), Some(0)));
 }

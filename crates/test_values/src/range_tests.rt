@@ -1,105 +1,86 @@
 //! The number of the first parameter that is out of its range.
 
+use crate::checks::holds;
 use crate::values::{dec, params};
-use base_decimals::Dec;
 use base_roles::Params;
 use std::process::Abort;
 
 /// One, in units of 10^-18.
 const ONE: u128 = 1_000_000_000_000_000_000;
 
-/// Parameters of which the one of this number is just above its range.
-fn above(rt: &impl Abort, number: u16) -> Params {
-    let (p, part): (Params, Dec) = (params(rt), dec(rt, ONE + 1));
-    match number {
-        11 => Params {
-            power_reduction: 1_000_000_000_000_000_001,
-            ..p
-        },
-        12 => Params {
-            unbonding_time: 1_000_000_001,
-            ..p
-        },
-        13 => Params {
-            max_validators: 1001,
-            ..p
-        },
-        14 => Params {
-            max_entries: 101,
-            ..p
-        },
-        15 => Params {
-            min_commission_rate: part,
-            ..p
-        },
-        16 => Params {
-            community_tax: part,
-            ..p
-        },
-        18 => Params {
-            signed_blocks_window: 100_001,
-            ..p
-        },
-        19 => Params {
-            min_signed_per_window: part,
-            ..p
-        },
-        20 => Params {
-            downtime_jail_duration: 1_000_000_001,
-            ..p
-        },
-        21 => Params {
-            slash_fraction_double_sign: part,
-            ..p
-        },
-        22 => Params {
-            slash_fraction_downtime: part,
-            ..p
-        },
-        23 => Params {
-            max_age_duration: 1_000_000_001,
-            ..p
-        },
-        24 => Params {
-            max_age_num_blocks: 9_223_372_036_854_775_808,
-            ..p
-        },
-        _ => p,
-    }
+/// That the first parameter out of its range is the one of this number.
+fn tells(rt: &impl Abort, case: &str, params: &Params, number: u16) {
+    holds(rt, case, params.out_of_range() == Some(number));
 }
 
-/// Parameters of which the one of this number is 0, where its range begins at 1.
-fn below(rt: &impl Abort, number: u16) -> Params {
-    let p = params(rt);
-    match number {
-        11 => Params {
-            power_reduction: 0,
-            ..p
-        },
-        12 => Params {
-            unbonding_time: 0,
-            ..p
-        },
-        13 => Params {
-            max_validators: 0,
-            ..p
-        },
-        14 => Params {
-            max_entries: 0,
-            ..p
-        },
-        18 => Params {
-            signed_blocks_window: 0,
-            ..p
-        },
-        _ => p,
-    }
+// Below, one parameter is out of its range at a time: just above it, or 0 where it begins at 1.
+
+#[test]
+fn numbers_of_staking_out_of_range_are_told(rt: HostRuntime) {
+    let mut p = params(&rt);
+    p.power_reduction = 1_000_000_000_000_000_001;
+    tells(&rt, "a power reduction above", &p, 11);
+    p.power_reduction = 0;
+    tells(&rt, "no power reduction", &p, 11);
+    p.power_reduction = 1;
+    p.unbonding_time = 1_000_000_001;
+    tells(&rt, "an unbonding time above", &p, 12);
+    p.unbonding_time = 0;
+    tells(&rt, "no unbonding time", &p, 12);
+    p.unbonding_time = 1;
+    p.max_validators = 1001;
+    tells(&rt, "validators above", &p, 13);
+    p.max_validators = 0;
+    tells(&rt, "no validators", &p, 13);
+    p.max_validators = 1;
+    p.max_entries = 101;
+    tells(&rt, "entries above", &p, 14);
+    p.max_entries = 0;
+    tells(&rt, "no entries", &p, 14);
 }
 
-/// Parameters at the upper ends of their ranges.
-fn highest(rt: &impl Abort) -> Params {
-    let part = dec(rt, ONE);
-    Params {
+#[test]
+fn parts_out_of_range_are_told(rt: HostRuntime) {
+    let (mut p, one, above) = (params(&rt), dec(&rt, ONE), dec(&rt, ONE + 1));
+    p.min_commission_rate = above;
+    tells(&rt, "a commission rate", &p, 15);
+    p.min_commission_rate = one;
+    p.community_tax = above;
+    tells(&rt, "a community tax", &p, 16);
+    p.community_tax = one;
+    p.min_signed_per_window = above;
+    tells(&rt, "a part of votes", &p, 19);
+    p.min_signed_per_window = one;
+    p.slash_fraction_double_sign = above;
+    tells(&rt, "a fraction for two signatures", &p, 21);
+    p.slash_fraction_double_sign = one;
+    p.slash_fraction_downtime = above;
+    tells(&rt, "a fraction for downtime", &p, 22);
+}
+
+#[test]
+fn numbers_of_slashing_out_of_range_are_told(rt: HostRuntime) {
+    let mut p = params(&rt);
+    p.signed_blocks_window = 100_001;
+    tells(&rt, "a window above", &p, 18);
+    p.signed_blocks_window = 0;
+    tells(&rt, "no window", &p, 18);
+    p.signed_blocks_window = 1;
+    p.downtime_jail_duration = 1_000_000_001;
+    tells(&rt, "a jail duration above", &p, 20);
+    p.downtime_jail_duration = 1;
+    p.max_age_duration = 1_000_000_001;
+    tells(&rt, "an age above", &p, 23);
+    p.max_age_duration = 1;
+    p.max_age_num_blocks = 9_223_372_036_854_775_808;
+    tells(&rt, "an age in blocks above", &p, 24);
+    holds(&rt, "out of range", !p.are_in_range());
+}
+
+#[test]
+fn parameters_at_their_ends_are_in_range(rt: HostRuntime) {
+    let part = dec(&rt, ONE);
+    let highest = Params {
         power_reduction: 1_000_000_000_000_000_000,
         unbonding_time: 1_000_000_000,
         max_validators: 1000,
@@ -113,28 +94,8 @@ fn highest(rt: &impl Abort) -> Params {
         slash_fraction_downtime: part,
         max_age_duration: 1_000_000_000,
         max_age_num_blocks: 9_223_372_036_854_775_807,
-        ..params(rt)
-    }
-}
-
-#[test]
-fn parameters_out_of_range_have_their_numbers(rt: HostRuntime) {
-    for number in [11, 12, 13, 14, 15, 16, 18, 19, 20, 21, 22, 23, 24] {
-        assert!(rt;
-            above(&rt, number).out_of_range() == Some(number),
-            "{number}"
-        );
-    }
-    for number in [11, 12, 13, 14, 18] {
-        assert!(rt;
-            below(&rt, number).out_of_range() == Some(number),
-            "{number}"
-        );
-    }
-}
-
-#[test]
-fn parameters_at_their_ends_are_in_range(rt: HostRuntime) {
-    assert!(rt; highest(&rt).out_of_range() == None && highest(&rt).are_in_range());
-    assert!(rt; !above(&rt, 24).are_in_range());
+        ..params(&rt)
+    };
+    holds(&rt, "none is told", highest.out_of_range() == None);
+    holds(&rt, "in range", highest.are_in_range());
 }

@@ -1,5 +1,6 @@
 //! Facts, refusals, lists and the values of records: their copies, and faults that become those of callers.
 
+use crate::checks::holds;
 use crate::values::{atom, dec, moment, params, user, validator};
 use base_coins::{Coin, DecCoin, DecCoins};
 use base_decimals::{Over, OverKind};
@@ -25,37 +26,55 @@ fn dec_coins(rt: &(impl Abort + AllocGlobal), raw: u128) -> DecCoins {
     DecCoins::of(list).expect(rt, "coins")
 }
 
+fn is_jailed(fact: Option<&Fact>) -> bool {
+    matches!(fact, Some(Fact::Jailed { .. }))
+}
+
+fn is_tombstoned(fact: Option<&Fact>) -> bool {
+    matches!(fact, Some(Fact::Tombstoned { .. }))
+}
+
 #[test]
 fn facts_are_put_at_the_end_and_cut(rt: HostRuntime) {
     let mut facts = Facts::new(rt.alloc());
     let validator = user(&rt, 7);
     facts.push(Fact::Jailed { validator }).expect(&rt, "memory");
-    facts
-        .push(Fact::Tombstoned { validator })
-        .expect(&rt, "memory");
-    assert!(rt; facts.len() == 2);
-    assert!(rt; matches!(facts.at(1), Some(Fact::Tombstoned { .. })));
-    assert!(rt; facts.at(2).is_none());
+    let second = facts.push(Fact::Tombstoned { validator });
+    second.expect(&rt, "memory");
+    holds(&rt, "two facts", facts.len() == 2);
+    holds(&rt, "the second", is_tombstoned(facts.at(1)));
+    holds(&rt, "no third", facts.at(2).is_none());
     facts.cut(1);
-    assert!(rt; facts.len() == 1);
-    assert!(rt; matches!(facts.at(0), Some(Fact::Jailed { .. })));
+    holds(&rt, "one fact", facts.len() == 1);
+    holds(&rt, "the first", is_jailed(facts.at(0)));
+}
+
+/// A sum that is over.
+const OVER: Over = Over {
+    kind: OverKind::Sum,
+    a: 1,
+    b: 2,
+    c: 0,
+};
+
+fn has_number(rt: &impl Abort, case: &str, refusal: Refusal, number: u8) {
+    holds(rt, case, refusal.number() == number);
 }
 
 #[test]
 fn refusals_have_the_numbers_of_printed_lines(rt: HostRuntime) {
-    let over = Over {
-        kind: OverKind::Sum,
-        a: 1,
-        b: 2,
-        c: 0,
-    };
-    assert_eq!(rt; Refusal::InsufficientFunds.number(), 1);
-    assert_eq!(rt; Refusal::NoDelegation.number(), 16);
-    assert_eq!(rt; Refusal::StillJailed(moment(&rt, 0)).number(), 30);
-    assert_eq!(rt; Refusal::Overflow(over).number(), 35);
-    assert_eq!(rt; Refusal::ParamRange(13).number(), 38);
-    assert_eq!(rt; Refusal::ParamFixed(10).number(), 39);
-    assert_eq!(rt; Refusal::FeeUnpaid.number(), 40);
+    has_number(&rt, "funds", Refusal::InsufficientFunds, 1);
+    has_number(&rt, "no delegation", Refusal::NoDelegation, 16);
+    has_number(
+        &rt,
+        "still jailed",
+        Refusal::StillJailed(moment(&rt, 0)),
+        30,
+    );
+    has_number(&rt, "over", Refusal::Overflow(OVER), 35);
+    has_number(&rt, "a range", Refusal::ParamRange(13), 38);
+    has_number(&rt, "fixed", Refusal::ParamFixed(10), 39);
+    has_number(&rt, "no fee", Refusal::FeeUnpaid, 40);
 }
 
 /// Whether a copy is equal to the value.
@@ -67,99 +86,101 @@ fn is_copied<T: Copied + PartialEq>(value: T) -> bool {
 }
 
 #[test]
-fn copies_are_equal(rt: HostRuntime) {
-    let (one, early, who, cons) = (
-        dec(&rt, 1),
-        moment(&rt, 7),
-        user(&rt, 7),
-        ConsAddr::of([9; 20]),
-    );
-    let validator = validator(&rt, 5);
-    assert!(rt; is_copied(validator) && is_copied(validator.commission));
-    assert!(rt; is_copied(Delegation::of(one)));
-    assert!(rt;
-        is_copied(UnbondingEntry {
-            created: 1,
-            completes: early,
-            initial: 2,
-            balance: 3
-        })
-    );
-    assert!(rt;
-        is_copied(RedelegationEntry {
-            created: 1,
-            completes: early,
-            initial: 2,
-            shares_dst: one
-        })
-    );
-    assert!(rt;
-        is_copied(SigningInfo {
-            start: 1,
-            counted: 2,
-            missed: 3,
-            jailed_until: early,
-            tombstoned: true
-        })
-    );
-    assert!(rt;
-        is_copied(StartingInfo {
-            period: 1,
-            stake: one,
-            height: 2
-        })
-    );
-    assert!(rt;
-        is_copied(SlashEvent {
-            height: 1,
-            period: 2,
-            fraction: one
-        })
-    );
-    assert!(rt;
-        is_copied(Ctx {
-            height: 1,
-            time: early,
-            params: params(&rt)
-        }) && is_copied(params(&rt))
-    );
-    assert!(rt;
-        is_copied(Vote {
-            cons,
-            power: 1,
-            signed: true
-        })
-    );
-    assert!(rt;
-        is_copied(Evidence {
-            cons,
-            height: 1,
-            time: early,
-            power: 2
-        })
-    );
-    assert!(rt;
-        is_copied(EditValidator {
-            validator: who,
-            rate: Some(one),
-            min_self_delegation: None
-        })
-    );
+fn copies_of_validators_and_entries_are_equal(rt: HostRuntime) {
+    let (one, early) = (dec(&rt, 1), moment(&rt, 7));
+    holds(&rt, "a validator", is_copied(validator(&rt, 5)));
+    let commission = validator(&rt, 5).commission;
+    holds(&rt, "a commission", is_copied(commission));
+    holds(&rt, "a delegation", is_copied(Delegation::of(one)));
+    let unbonding = UnbondingEntry {
+        created: 1,
+        completes: early,
+        initial: 2,
+        balance: 3,
+    };
+    holds(&rt, "an unbonding entry", is_copied(unbonding));
+    let redelegation = RedelegationEntry {
+        created: 1,
+        completes: early,
+        initial: 2,
+        shares_dst: one,
+    };
+    holds(&rt, "a redelegation entry", is_copied(redelegation));
+}
+
+#[test]
+fn copies_of_signing_and_of_periods_are_equal(rt: HostRuntime) {
+    let (one, early) = (dec(&rt, 1), moment(&rt, 7));
+    let info = SigningInfo {
+        start: 1,
+        counted: 2,
+        missed: 3,
+        jailed_until: early,
+        tombstoned: true,
+    };
+    holds(&rt, "a signing record", is_copied(info));
+    let start = StartingInfo {
+        period: 1,
+        stake: one,
+        height: 2,
+    };
+    holds(&rt, "a start", is_copied(start));
+    let event = SlashEvent {
+        height: 1,
+        period: 2,
+        fraction: one,
+    };
+    holds(&rt, "a slash event", is_copied(event));
+}
+
+#[test]
+fn copies_of_what_a_block_tells_are_equal(rt: HostRuntime) {
+    let (early, cons) = (moment(&rt, 7), ConsAddr::of([9; 20]));
+    holds(&rt, "parameters", is_copied(params(&rt)));
+    let ctx = Ctx {
+        height: 1,
+        time: early,
+        params: params(&rt),
+    };
+    holds(&rt, "a context", is_copied(ctx));
+    let vote = Vote {
+        cons,
+        power: 1,
+        signed: true,
+    };
+    holds(&rt, "a vote", is_copied(vote));
+    let evidence = Evidence {
+        cons,
+        height: 1,
+        time: early,
+        power: 2,
+    };
+    holds(&rt, "evidence", is_copied(evidence));
+}
+
+#[test]
+fn copies_of_messages_are_equal(rt: HostRuntime) {
+    let (one, validator) = (dec(&rt, 1), user(&rt, 7));
+    let edit = EditValidator {
+        validator,
+        rate: Some(one),
+        min_self_delegation: None,
+    };
+    holds(&rt, "an edit", is_copied(edit));
     let amount = Coin {
         denom: atom(&rt),
         amount: 4,
     };
-    assert!(rt;
-        is_copied(CreateValidator {
-            validator: who,
-            cons,
-            rate: one,
-            max_rate: one,
-            max_change_rate: one,
-            min_self_delegation: 3,
-            amount
-        })
-    );
+    let create = CreateValidator {
+        validator,
+        cons: ConsAddr::of([9; 20]),
+        rate: one,
+        max_rate: one,
+        max_change_rate: one,
+        min_self_delegation: 3,
+        amount,
+    };
+    holds(&rt, "a creation", is_copied(create));
 }
 
 #[test]
@@ -171,9 +192,17 @@ fn a_copy_of_a_purse_has_the_same_coins(rt: HostRuntime) {
     };
     let copy = purse.copied().expect(&rt, "memory");
     let atom = atom(&rt);
-    assert!(rt; copy.outstanding.amount_of(&atom).raw() == 1);
-    assert!(rt; copy.commission.amount_of(&atom).raw() == 2);
-    assert!(rt; copy.current.amount_of(&atom).raw() == 3);
+    holds(
+        &rt,
+        "outstanding",
+        copy.outstanding.amount_of(&atom).raw() == 1,
+    );
+    holds(
+        &rt,
+        "commission",
+        copy.commission.amount_of(&atom).raw() == 2,
+    );
+    holds(&rt, "current", copy.current.amount_of(&atom).raw() == 3);
 }
 
 #[test]
@@ -183,64 +212,147 @@ fn a_copy_of_a_ratio_has_the_same_coins(rt: HostRuntime) {
         count: 2,
     };
     let copy = history.copied().expect(&rt, "memory");
-    assert!(rt; copy.ratio.amount_of(&atom(&rt)).raw() == 4 && copy.count == 2);
+    holds(
+        &rt,
+        "the ratio",
+        copy.ratio.amount_of(&atom(&rt)).raw() == 4,
+    );
+    holds(&rt, "the count", copy.count == 2);
 }
 
 #[test]
-fn faults_become_those_of_callers(rt: HostRuntime) {
-    let over = Over {
-        kind: OverKind::Sum,
-        a: 1,
-        b: 2,
-        c: 0,
-    };
-    let refused = MessageFault::Refused(Refusal::Overflow(over));
-    assert!(rt; RecordFault::from(TableFault::Spent) == RecordFault::NoMemory);
-    assert!(rt; RecordFault::from(AllocError) == RecordFault::NoMemory);
-    assert!(rt; RecordFault::from(AllocFailed { value: 1u8 }) == RecordFault::NoMemory);
-    assert!(rt; BankFault::from(TableFault::Spent) == BankFault::NoMemory);
-    assert!(rt; BankFault::from(RecordFault::NoMemory) == BankFault::NoMemory);
-    assert!(rt; BankFault::from(AllocError) == BankFault::NoMemory);
-    assert!(rt; BankFault::from(AllocFailed { value: 1u8 }) == BankFault::NoMemory);
-    assert!(rt; HookFault::from(TableFault::Spent) == HookFault::NoMemory);
-    assert!(rt; HookFault::from(RecordFault::NoMemory) == HookFault::NoMemory);
-    assert!(rt; HookFault::from(AllocError) == HookFault::NoMemory);
-    assert!(rt; HookFault::from(AllocFailed { value: 1u8 }) == HookFault::NoMemory);
-    assert!(rt; HookFault::from(over) == HookFault::Over(over));
-    assert!(rt; MessageFault::from(TableFault::Spent) == MessageFault::NoMemory);
-    assert!(rt; MessageFault::from(RecordFault::NoMemory) == MessageFault::NoMemory);
-    assert!(rt; MessageFault::from(AllocError) == MessageFault::NoMemory);
-    assert!(rt; MessageFault::from(AllocFailed { value: 1u8 }) == MessageFault::NoMemory);
-    assert!(rt;
-        MessageFault::from(over) == refused && MessageFault::from(HookFault::Over(over)) == refused
+fn faults_of_records_become_those_of_callers(rt: HostRuntime) {
+    let fault = RecordFault::NoMemory;
+    holds(
+        &rt,
+        "of a table",
+        RecordFault::from(TableFault::Spent) == fault,
     );
-    assert!(rt; MessageFault::from(HookFault::NoMemory) == MessageFault::NoMemory);
-    assert!(rt;
-        MessageFault::from(BankFault::Short) == MessageFault::Refused(Refusal::InsufficientFunds)
+    holds(&rt, "of memory", RecordFault::from(AllocError) == fault);
+    holds(
+        &rt,
+        "of a value",
+        RecordFault::from(AllocFailed { value: 1u8 }) == fault,
     );
-    assert!(rt; MessageFault::from(BankFault::NoMemory) == MessageFault::NoMemory);
-    assert!(rt; MessageFault::from(Refusal::NoTokens) == MessageFault::Refused(Refusal::NoTokens));
+}
+
+#[test]
+fn faults_of_the_bank_become_those_of_callers(rt: HostRuntime) {
+    let fault = BankFault::NoMemory;
+    holds(
+        &rt,
+        "of a table",
+        BankFault::from(TableFault::Spent) == fault,
+    );
+    holds(
+        &rt,
+        "of a record",
+        BankFault::from(RecordFault::NoMemory) == fault,
+    );
+    holds(&rt, "of memory", BankFault::from(AllocError) == fault);
+    holds(
+        &rt,
+        "of a value",
+        BankFault::from(AllocFailed { value: 1u8 }) == fault,
+    );
+}
+
+#[test]
+fn faults_of_hooks_become_those_of_callers(rt: HostRuntime) {
+    let fault = HookFault::NoMemory;
+    holds(
+        &rt,
+        "of a table",
+        HookFault::from(TableFault::Spent) == fault,
+    );
+    holds(
+        &rt,
+        "of a record",
+        HookFault::from(RecordFault::NoMemory) == fault,
+    );
+    holds(&rt, "of memory", HookFault::from(AllocError) == fault);
+    holds(
+        &rt,
+        "of a value",
+        HookFault::from(AllocFailed { value: 1u8 }) == fault,
+    );
+    holds(&rt, "over", HookFault::from(OVER) == HookFault::Over(OVER));
+}
+
+#[test]
+fn want_of_memory_becomes_that_of_messages(rt: HostRuntime) {
+    let fault = MessageFault::NoMemory;
+    holds(
+        &rt,
+        "of a table",
+        MessageFault::from(TableFault::Spent) == fault,
+    );
+    holds(
+        &rt,
+        "of a record",
+        MessageFault::from(RecordFault::NoMemory) == fault,
+    );
+    holds(&rt, "of memory", MessageFault::from(AllocError) == fault);
+    holds(
+        &rt,
+        "of a value",
+        MessageFault::from(AllocFailed { value: 1u8 }) == fault,
+    );
+    holds(
+        &rt,
+        "of a hook",
+        MessageFault::from(HookFault::NoMemory) == fault,
+    );
+    holds(
+        &rt,
+        "of the bank",
+        MessageFault::from(BankFault::NoMemory) == fault,
+    );
+}
+
+#[test]
+fn faults_become_refusals_of_messages(rt: HostRuntime) {
+    let over = MessageFault::Refused(Refusal::Overflow(OVER));
+    holds(&rt, "over", MessageFault::from(OVER) == over);
+    holds(
+        &rt,
+        "over in a hook",
+        MessageFault::from(HookFault::Over(OVER)) == over,
+    );
+    let funds = MessageFault::Refused(Refusal::InsufficientFunds);
+    holds(&rt, "short", MessageFault::from(BankFault::Short) == funds);
+    let tokens = MessageFault::Refused(Refusal::NoTokens);
+    holds(
+        &rt,
+        "refused",
+        MessageFault::from(Refusal::NoTokens) == tokens,
+    );
 }
 
 #[test]
 fn a_list_gives_back_what_it_was_made_of(rt: HostRuntime) {
     let given = vec![in rt.alloc(); true, false].expect(&rt, "memory");
     let ring = Listed::of(given).copied().expect(&rt, "memory");
-    assert!(rt; ring.len() == 2);
-    assert!(rt; ring.at(0) == Some(&true));
-    assert!(rt; ring.at(2).is_none());
-    assert!(rt; ring.as_slice() == [true, false].as_slice());
-    assert!(rt; ring.into_vec().as_slice() == [true, false].as_slice());
+    holds(&rt, "two", ring.len() == 2);
+    holds(&rt, "the first", ring.at(0) == Some(&true));
+    holds(&rt, "no third", ring.at(2).is_none());
+    holds(&rt, "the same", ring.as_slice() == [true, false].as_slice());
+    let back = ring.into_vec();
+    holds(
+        &rt,
+        "given back",
+        back.as_slice() == [true, false].as_slice(),
+    );
     let none: Listed<bool> = Listed::new(rt.alloc());
-    assert!(rt; none.len() == 0);
+    holds(&rt, "none", none.len() == 0);
 }
 
 #[test]
 fn facts_give_back_what_they_were_made_of(rt: HostRuntime) {
     let validator = user(&rt, 7);
     let given = vec![in rt.alloc(); Fact::Jailed { validator }].expect(&rt, "memory");
-    let facts = Facts::of(given);
-    assert!(rt; matches!(facts.into_vec().pop(), Some(Fact::Jailed { .. })));
+    let back = Facts::of(given).into_vec();
+    holds(&rt, "given back", is_jailed(back.get(0)));
 }
 
 #[test]
@@ -249,5 +361,5 @@ fn laws_are_called(rt: HostRuntime) {
     coins_move_by_amounts();
     coins_burn_by_amounts();
     banks_stay_in_order();
-    assert!(rt; Refusal::NoTokens.number() == 18);
+    has_number(&rt, "no tokens", Refusal::NoTokens, 18);
 }

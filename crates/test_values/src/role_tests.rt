@@ -4,6 +4,7 @@ ghost use Rattle.std.specs.Prelude.{◌≡◌, ◌<◌};
 ghost use Rattle.base_roles.specs.Ground.{seen, IsInOrder};
 ghost use Rattle.base_roles.specs.Holdings.{no_holdings};
 
+use crate::checks::holds;
 use crate::values::{coins, dec, moment, params, validator};
 use base_coins::Coins;
 use base_roles::{Ctx, Facts, Ground, HookPair, MessageFault, NoHooks, Refusal};
@@ -63,7 +64,8 @@ fn outcome_of_sending<L: Ledger>(
 #[test]
 fn a_short_sender_between_hooks_is_refused(rt: HostRuntime) {
     let short = outcome_of_sending::<Brand>(&rt, Blank::new(1), &coins(&rt, 3));
-    assert!(rt; short == Err(MessageFault::Refused(Refusal::InsufficientFunds)));
+    let refused = MessageFault::Refused(Refusal::InsufficientFunds);
+    holds(&rt, "short", short == Err(refused));
     let nothing = outcome_of_sending::<Brand>(&rt, Blank::new(1), &coins(&rt, 0));
-    assert!(rt; nothing == Ok(()));
+    holds(&rt, "nothing", nothing == Ok(()));
 }

@@ -2,6 +2,7 @@
 
 ghost use Rattle.std.specs.Prelude.{◌≡◌, ◌<◌};
 
+use crate::checks::holds;
 use crate::row_kinds::{PeriodKind, SupplyKind};
 use base_records::{Both, Kinds, One};
 use base_roles::Item;
@@ -104,8 +105,10 @@ fn records_of_two_kinds_are_listed(rt: HostRuntime) {
     let first = Denom::of(b"uatom").expect(&rt, "a denomination");
     let second = Denom::of(b"uosmo").expect(&rt, "a denomination");
     let (items, changes) = listed_after::<Brand>(&rt, &operator, &first, &second, Blank::new(1));
-    assert!(rt; items.len() == 2);
-    assert!(rt; is_supply(items.get(0), 9) && is_supply(items.get(1), 5));
-    assert!(rt; changes.len() == 2);
-    assert!(rt; is_gone(changes.get(0)) && is_risen(changes.get(1), 9));
+    holds(&rt, "two items", items.len() == 2);
+    holds(&rt, "the first supply", is_supply(items.get(0), 9));
+    holds(&rt, "the second supply", is_supply(items.get(1), 5));
+    holds(&rt, "two changes", changes.len() == 2);
+    holds(&rt, "the period is gone", is_gone(changes.get(0)));
+    holds(&rt, "the supply rose", is_risen(changes.get(1), 9));
 }

@@ -2,6 +2,7 @@
 
 ghost use Rattle.std.specs.Prelude.{◌≡◌, ◌<◌};
 
+use crate::checks::holds;
 use base_table::Table;
 use base_types::Steps;
 use std::marker::Brand;
@@ -28,19 +29,23 @@ fn gone_back<L: Ledger>(rt: &(impl Abort + AllocGlobal), blank: Blank) -> Table<
 #[test]
 fn a_table_goes_back_and_lists_what_was_touched(rt: HostRuntime) {
     let table = gone_back::<Brand>(&rt, Blank::new(1));
-    assert!(rt; table.len() == 1);
+    holds(&rt, "one entry", table.len() == 1);
     let touched = table.touched();
-    assert!(rt; touched.len() == 2);
-    assert!(rt; touched.get_index(0) == Some((&2, &None)));
-    assert!(rt; touched.get_index(1) == Some((&1, &Some(10))));
+    holds(&rt, "two touched", touched.len() == 2);
+    holds(&rt, "2 was new", touched.get_index(0) == Some((&2, &None)));
+    holds(
+        &rt,
+        "1 had 10",
+        touched.get_index(1) == Some((&1, &Some(10))),
+    );
 }
 
 #[test]
 fn a_table_tells_what_was_touched_by_key(rt: HostRuntime) {
     let table = gone_back::<Brand>(&rt, Blank::new(1));
-    assert!(rt; table.touched_value(&1) == Some(&Some(10)));
-    assert!(rt; table.touched_value(&2) == Some(&None));
-    assert!(rt; table.touched_value(&3) == None);
+    holds(&rt, "1 had 10", table.touched_value(&1) == Some(&Some(10)));
+    holds(&rt, "2 was new", table.touched_value(&2) == Some(&None));
+    holds(&rt, "3 was not touched", table.touched_value(&3) == None);
 }
 
 /// Two keys that were touched in one order, were settled, and are touched in the other order.
@@ -64,9 +69,17 @@ fn touched_again<L: Ledger>(rt: &(impl Abort + AllocGlobal), blank: Blank) -> Ta
 fn a_settled_table_lists_anew(rt: HostRuntime) {
     let table = touched_again::<Brand>(&rt, Blank::new(1));
     let touched = table.touched();
-    assert!(rt; touched.len() == 2);
-    assert!(rt; touched.get_index(0) == Some((&2, &Some(20))));
-    assert!(rt; touched.get_index(1) == Some((&1, &Some(10))));
+    holds(&rt, "two touched", touched.len() == 2);
+    holds(
+        &rt,
+        "2 had 20",
+        touched.get_index(0) == Some((&2, &Some(20))),
+    );
+    holds(
+        &rt,
+        "1 had 10",
+        touched.get_index(1) == Some((&1, &Some(10))),
+    );
 }
 
 const KEYS: u64 = 10_000;
@@ -122,9 +135,9 @@ fn last_values<L: Ledger>(
 #[test]
 fn marks_of_10000_keys_nest(rt: HostRuntime) {
     let (first, second, len) = last_values::<Brand>(&rt, Blank::new(1));
-    assert!(rt; first == Some(1));
-    assert!(rt; second == Some(4));
-    assert!(rt; len == 10_000);
+    holds(&rt, "behind the inner mark", first == Some(1));
+    holds(&rt, "behind the outer mark", second == Some(4));
+    holds(&rt, "all keys", len == 10_000);
 }
 
 /// How many entries a table has, the values of the entries above 1, from 2 on and at 2, and how many keys are
@@ -156,7 +169,7 @@ fn seen_without_2<L: Ledger>(rt: &(impl Abort + AllocGlobal), blank: Blank) -> S
 #[test]
 fn a_key_that_is_taken_out_is_not_seen(rt: HostRuntime) {
     let seen = seen_without_2::<Brand>(&rt, Blank::new(1));
-    assert!(rt; seen == (2, Some(30), Some(30), None, 0));
+    holds(&rt, "2 is gone", seen == (2, Some(30), Some(30), None, 0));
 }
 
 /// The value of 1, which had 10 before: under the first of two marks it is taken out, under the second it is
@@ -186,5 +199,9 @@ fn values_of_1<L: Ledger>(
 #[test]
 fn a_key_that_was_put_again_goes_back(rt: HostRuntime) {
     let values = values_of_1::<Brand>(&rt, Blank::new(1));
-    assert!(rt; values == (Some(10), None, Some(10)));
+    holds(
+        &rt,
+        "taken out, put again, gone back",
+        values == (Some(10), None, Some(10)),
+    );
 }

@@ -2,6 +2,7 @@
 
 ghost use Rattle.std.specs.Prelude.{◌≡◌, ◌<◌, ◌≤◌, ◌^◌};
 
+use crate::checks::holds;
 use crate::role_tests::empty_ground;
 use crate::values::{dec, moment, user, validator};
 use base_coins::DecCoins;
@@ -44,11 +45,9 @@ fn trials_are_slashed<L: Ledger>(rt: &(impl Abort + AllocGlobal), blank: Blank) 
         5,
         &mut steps,
     );
-    unbondings == Ok(0)
-        && followed == Ok(0)
-        && redelegations_are_slashed(rt, &v, half, &mut steps)
-        && is_slashed(rt, &v, half, &mut steps)
-        && is_jailed(rt, &v, &mut steps)
+    let redelegations = redelegations_are_slashed(rt, &v, half, &mut steps);
+    let validator = is_slashed(rt, &v, half, &mut steps) & is_jailed(rt, &v, &mut steps);
+    (unbondings == Ok(0)) & (followed == Ok(0)) & redelegations & validator
 }
 
 /// Whether no redelegation is slashed where there is none.
@@ -174,13 +173,11 @@ fn is_banned<L: Ledger>(rt: &(impl Abort + AllocGlobal), blank: Blank) -> bool
             tombstoned: false,
         },
     };
-    if signer.info(&ConsAddr::of([8; 20]), &mut steps).is_some()
-        || signer.info(&cons, &mut steps).is_none()
-    {
-        return false;
-    }
+    let is_other = signer.info(&ConsAddr::of([8; 20]), &mut steps).is_none();
+    let is_known = signer.info(&cons, &mut steps).is_some();
     let done = signer.ban(rt.alloc(), &cons, moment(rt, 5), &mut steps);
-    done == Ok(()) && signer.info.tombstoned && signer.info.jailed_until == moment(rt, 5)
+    let is_jailed = signer.info.tombstoned & (signer.info.jailed_until == moment(rt, 5));
+    is_other & is_known & (done == Ok(())) & is_jailed
 }
 
 /// Whether the marks of a module without records nest, and it lists nothing.
@@ -207,13 +204,17 @@ fn marks_nest<L: Ledger>(rt: &(impl Abort + AllocGlobal), blank: Blank) -> bool
     none.back(&mut steps);
     none.forget(&mut steps);
     none.settle(&mut steps);
-    items.len() == 0 && changes.len() == 0 && !loaded && none.open == 0
+    (items.len() == 0) & (changes.len() == 0) & !loaded & (none.open == 0)
 }
 
 #[test]
 fn each_trait_has_a_value(rt: HostRuntime) {
-    assert!(rt; trials_are_slashed::<Brand>(&rt, Blank::new(1)));
-    assert!(rt; wants_memory::<Brand>(&rt, Blank::new(1)));
-    assert!(rt; is_banned::<Brand>(&rt, Blank::new(1)));
-    assert!(rt; marks_nest::<Brand>(&rt, Blank::new(1)));
+    holds(
+        &rt,
+        "slashed",
+        trials_are_slashed::<Brand>(&rt, Blank::new(1)),
+    );
+    holds(&rt, "no memory", wants_memory::<Brand>(&rt, Blank::new(1)));
+    holds(&rt, "banned", is_banned::<Brand>(&rt, Blank::new(1)));
+    holds(&rt, "marks", marks_nest::<Brand>(&rt, Blank::new(1)));
 }
