@@ -8,6 +8,7 @@ from __future__ import annotations
 
 import os
 import re
+import signal
 from collections import deque
 from concurrent.futures import BrokenExecutor, Future, ProcessPoolExecutor
 from dataclasses import dataclass
@@ -142,14 +143,24 @@ class Parts:
 
     def __iter__(self) -> Iterator[tuple[bytes, Told]]:
         """The text of each part, and what is known of its shares."""
-        if self.jobs < 2 or not self.size or "fork" not in get_all_start_methods():
+        others = self.others()
+        if others is None:
             yield from ((text, {}) for text in chunks(self.file))
             return
-        with ProcessPoolExecutor(self.jobs - 1, get_context("fork")) as others:
+        with others:
             try:
                 yield from self.beside(others)
             finally:
                 others.shutdown(cancel_futures=True)
+
+    def others(self) -> ProcessPoolExecutor | None:
+        """The other processes, where there are to be some and the system has what they need."""
+        if self.jobs < 2 or not self.size or "fork" not in get_all_start_methods():
+            return None
+        try:
+            return ProcessPoolExecutor(self.jobs - 1, get_context("fork"), signal.signal, (signal.SIGINT, signal.SIG_IGN))
+        except (ImportError, NotImplementedError, OSError):
+            return None
 
     def beside(self, others: ProcessPoolExecutor) -> Iterator[tuple[bytes, Told]]:
         """The same, by other processes."""
