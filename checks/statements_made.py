@@ -214,7 +214,7 @@ def whole(name, form, given, out, most=None):
             bad.append(f"{name}: {pair}: a statement is not found right")
     if ran([*form, "statement", *NOBODY["".join(form)]], given) != (10, "", "stakeplay: not found"):
         bad.append(f"{name}: a pair that was never paid is not told so")
-    return count, bad + [fault for pair in pairs[:1] for fault in cut(f"{name}, cut", form, given[:-2], pair)]
+    return count, bad + [fault for pair in pairs[:1] for fault in cut(f"{name}, cut", form, given.rstrip()[:-1], pair)]
 
 
 def cut(name, form, given, pair):
